@@ -1,0 +1,4 @@
+pub mod Fraction
+pub mod Sum
+pub mod Divide
+pub mod Round

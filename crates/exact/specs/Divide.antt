@@ -1,0 +1,28 @@
+-- The greatest common divisor, and the order of two fractions as an answer.
+use Prim.Native.Nat.{ℕ, _∣_, _≤_, _^_}
+use mathlib.Core.Bool.{cond}
+use lib.IntN.{ℤ, pos, natAbs, _*ℤ_}
+use lib.Signed.{_<ℤ_, _≤ℤ_, ltZ}
+use Rattle.exact.specs.declared.Fraction.{Fraction}
+use Rattle.exact.specs.declared.Order.{Order}
+use Rattle.exact.specs.declared.Order.the-variants.{Below, Same, Above}
+
+-- g divides a and b, and whatever divides both divides g
+pub record GreatestCommonDivisor (a b g : ℕ) : Type 0 where
+  pub left : g ∣ a
+  pub right : g ∣ b
+  pub greatest : (k : ℕ) → k ∣ a → k ∣ b → k ∣ g
+
+-- where a whole number stands to another
+unfoldable pub orderZ : ℤ → ℤ → Order
+orderZ x y = cond (ltZ x y) Below (cond (ltZ y x) Above Same)
+
+-- where a fraction stands to another, over a common denominator
+unfoldable pub orderOf : Fraction → Fraction → Order
+orderOf a b = orderZ (a .num *ℤ b .den) (b .num *ℤ a .den)
+
+-- the fractions that the comparison and the rounding below take: a denominator from 1 to 518,400, a numerator within 2 to the power 62
+pub record InRange (q : Fraction) : Type 0 where
+  pub above : pos 0 <ℤ q .den
+  pub den-most : q .den ≤ℤ pos 518400
+  pub num-most : natAbs (q .num) ≤ 2 ^ 62

@@ -1,0 +1,43 @@
+-- Whole units (document 01): the nearest whole number, halves away from zero, as IEEE 754's roundTiesToAway; and refusal 12.
+use Prim.Native.Nat.{ℕ, _+_, _*_, _/_, _%_}
+use mathlib.Core.Bool.{Bool, true, false, cond, _&&_}
+use lib.Dec.{ltb, leb}
+use lib.IntN.{ℤ, pos, negsuc, negℤ, natAbs}
+use lib.Signed.{leZ}
+use Rattle.exact.specs.declared.Refusal.{Refusal}
+use Rattle.exact.specs.declared.Rounded.{Rounded}
+use Rattle.exact.specs.declared.Rounded.the-variants.{Whole, Refused}
+
+-- the whole number of magnitude m on z's side of zero
+abbrev pub onSide : ℤ → ℕ → ℤ
+onSide (pos n) m = pos m
+onSide (negsuc n) m = negℤ (pos m)
+
+-- the magnitude a/d to the nearest whole number: its whole part where the rest is below a half, else the next
+abbrev pub nearestMagnitude : ℕ → ℕ → ℕ
+nearestMagnitude a d = cond (ltb (2 * (a % d)) d) (a / d) (a / d + 1)
+
+-- "a fraction goes to the nearest whole unit; halves go away from zero"
+unfoldable pub roundTiesToAway : ℤ → ℤ → ℤ
+roundTiesToAway num den = onSide num (nearestMagnitude (natAbs num) (natAbs den))
+
+-- what refusal 12 is not met by: a denominator from 1 to 4,800 and a numerator within 5,472,000,000 either way
+unfoldable pub withinPlaces : ℤ → ℤ → Bool
+withinPlaces num den = leZ (pos 1) den && leZ den (pos 4800) && leb (natAbs num) 5472000000
+
+-- the answer: the whole unit, or refusal 12 with place 0
+unfoldable pub rounded : ℤ → ℤ → Rounded
+rounded num den = cond (withinPlaces num den) (Whole (roundTiesToAway num den)) (Refused (record { number = 12; place = 0; ring = 0 }))
+
+-- the number of an answer (0: not refused), its place, and the whole number given, which is 0 where it is refused
+abbrev pub numberOf : Rounded → ℕ
+numberOf (Whole z) = 0
+numberOf (Refused r) = r .number
+
+abbrev pub placeOf : Rounded → ℕ
+placeOf (Whole z) = 0
+placeOf (Refused r) = r .place
+
+abbrev pub wholeOf : Rounded → ℤ
+wholeOf (Whole z) = z
+wholeOf (Refused r) = pos 0

@@ -1,0 +1,15 @@
+-- Finite sums over an index that counts from 0.
+use Prim.Native.Nat.{ℕ, zero, suc}
+use lib.IntN.{ℤ, pos, _+ℤ_}
+use Rattle.exact.specs.declared.Fraction.{Fraction}
+use Rattle.exact.specs.Fraction.{_⊕_, whole}
+
+-- f 0 + f 1 + .. + f (n - 1)
+unfoldable pub sum : ℕ → (ℕ → ℤ) → ℤ
+sum zero f = pos 0
+sum (suc n) f = sum n f +ℤ f n
+
+-- the same of fractions
+unfoldable pub total : ℕ → (ℕ → Fraction) → Fraction
+total zero f = whole (pos 0)
+total (suc n) f = total n f ⊕ f n

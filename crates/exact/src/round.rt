@@ -1,0 +1,83 @@
+// Rounding to whole units, with refusal 12.
+use crate::Refusal;
+use crate::Rounded;
+
+ghost use mathlib.Core.Path.{_≡_};
+ghost use Rattle.exact.specs.Divide.{InRange};
+ghost use Rattle.exact.specs.Round.{roundTiesToAway, rounded, numberOf, placeOf, wholeOf};
+
+impl Rounded {
+    // The refusal's number, or 0.
+    pub fn number(self) -> usize
+        ensures { λ r. ⌜ r ≡ numberOf self ⌝ }
+    {
+        match self {
+            Rounded::Whole(_) => 0,
+            Rounded::Refused(refusal) => refusal.number,
+        }
+    }
+
+    // The refusal's place, or 0.
+    pub fn place(self) -> usize
+        ensures { λ r. ⌜ r ≡ placeOf self ⌝ }
+    {
+        match self {
+            Rounded::Whole(_) => 0,
+            Rounded::Refused(refusal) => refusal.place,
+        }
+    }
+
+    // The whole number given, which is 0 for a refusal.
+    pub fn whole(self) -> i64
+        ensures { λ r. ⌜ r ≡ wholeOf self ⌝ }
+    {
+        match self {
+            Rounded::Whole(unit) => unit,
+            Rounded::Refused(_) => 0,
+        }
+    }
+}
+
+// The nearest whole number to num/den, halves away from zero.
+pub fn nearest(num: i64, den: i64) -> i64
+    requires { ⌜ InRange (record { num = num; den = den }) ⌝ }
+    ensures { λ r. ⌜ r ≡ roundTiesToAway num den ⌝ }
+{
+    let whole = num / den;
+    let rest = num % den;
+    if rest < 0 {
+        if 2 * (0 - rest) < den { whole } else { whole - 1 }
+    } else {
+        if 2 * rest < den { whole } else { whole + 1 }
+    }
+}
+
+// Refusal 12, whose place is 0.
+fn refused() -> Rounded
+    ensures { λ r. ⌜ r ≡ Rounded.Refused (record { number = 12; place = 0; ring = 0 }) ⌝ }
+{
+    Rounded::Refused(Refusal {
+        number: 12,
+        place: 0,
+        ring: 0,
+    })
+}
+
+// Rounds a fraction to the nearest whole unit, or refuses it with 12. Any two numbers may be given.
+pub fn round(num: i64, den: i64) -> Rounded
+    ensures { λ r. ⌜ r ≡ rounded num den ⌝ }
+{
+    if den < 1 {
+        return refused();
+    }
+    if 4800 < den {
+        return refused();
+    }
+    if num < -5472000000 {
+        return refused();
+    }
+    if 5472000000 < num {
+        return refused();
+    }
+    Rounded::Whole(nearest(num, den))
+}
