@@ -1,7 +1,6 @@
 // The order of two fractions.
 use crate::Fraction;
 use crate::Order;
-
 ghost use mathlib.Core.Path.{_≡_};
 ghost use Rattle.exact.specs.Divide.{InRange, orderZ, orderOf};
 

@@ -1,10 +1,9 @@
 // The greatest common divisor, and fractions in lowest terms.
 use crate::Fraction;
-
 ghost use mathlib.Core.Path.{_≡_};
 ghost use Prim.Native.Nat.{_<_, _^_};
 ghost use lib.IntN.{pos, natAbs};
-ghost use lib.Signed.{_<ℤ_};
+ghost use lib.Signed.{_<ℤ_, quotZ, remZ};
 ghost use Rattle.exact.specs.Fraction.{Reduced};
 ghost use Rattle.exact.specs.Divide.{GreatestCommonDivisor};
 
@@ -30,12 +29,29 @@ fn magnitude(x: i64) -> u64
     if x < 0 { (0 - x) as u64 } else { x as u64 }
 }
 
+// The quotient toward zero.
+fn quotient(num: i64, den: i64) -> i64
+    requires { ⌜ pos 0 <ℤ den ⌝ }
+    ensures { λ r. ⌜ r ≡ quotZ num den ⌝ }
+{
+    num / den
+}
+
+// The remainder, with the sign of num.
+fn remainder(num: i64, den: i64) -> i64
+    requires { ⌜ pos 0 <ℤ den ⌝ }
+    ensures { λ r. ⌜ r ≡ remZ num den ⌝ }
+{
+    num % den
+}
+
 // The greatest common divisor of a numerator and a denominator above zero. The remainder stands in for the numerator, so that no magnitude overflows.
 fn common(num: i64, den: i64) -> i64
     requires { ⌜ pos 0 <ℤ den ⌝ }
     ensures { λ r. ⌜ (pos 0 <ℤ r) × GreatestCommonDivisor (natAbs num) (natAbs den) (natAbs r) ⌝ }
 {
-    gcd(magnitude(num % den), magnitude(den)) as i64
+    let rest = remainder(num, den);
+    gcd(magnitude(den), magnitude(rest)) as i64
 }
 
 // The same fraction in lowest terms.
@@ -45,7 +61,7 @@ pub fn lowest(num: i64, den: i64) -> Fraction
 {
     let g = common(num, den);
     Fraction {
-        num: num / g,
-        den: den / g,
+        num: quotient(num, g),
+        den: quotient(den, g),
     }
 }

@@ -1,7 +1,6 @@
 // Rounding to whole units, with refusal 12.
 use crate::Refusal;
 use crate::Rounded;
-
 ghost use mathlib.Core.Path.{_≡_};
 ghost use Rattle.exact.specs.Divide.{InRange};
 ghost use Rattle.exact.specs.Round.{roundTiesToAway, rounded, numberOf, placeOf, wholeOf};
@@ -46,7 +45,11 @@ pub fn nearest(num: i64, den: i64) -> i64
     let whole = num / den;
     let rest = num % den;
     if rest < 0 {
-        if 2 * (0 - rest) < den { whole } else { whole - 1 }
+        if 2 * (0 - rest) < den {
+            whole
+        } else {
+            whole - 1
+        }
     } else {
         if 2 * rest < den { whole } else { whole + 1 }
     }

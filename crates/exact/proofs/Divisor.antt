@@ -1,0 +1,190 @@
+-- Divisors: Euclid's step, Gauss's lemma, and fractions in lowest terms, which are unique.
+use mathlib.Core.Path.{_≡_, refl, sym, _∙_, ap, subst}
+use mathlib.Core.Bool.{true, false}
+use mathlib.Core.List.{[], _∷_}
+use Prim.Native.Nat.{ℕ, zero, suc, _+_, _*_, _/_, _%_, _≤_, _<_, _^_, _∣_}
+use native.Mathlib.Omega.{arith}
+use native.Mathlib.Nat.{dvd-refl, dvd-zero, dvd-mul-left, dvd-mul-right, dvd-trans, dvd-mul-left-of-dvd, one-dvd, dvd-add-iff-left, dvd-mod-iff, dvd-antisymm, pos-of-dvd-of-pos, le-of-dvd, mod-lt, mod-add-div', mul-dvd-mul-left, mul-dvd-mul-right, dvd-of-mul-dvd-mul-left, eq-one-of-dvd-one, mul-div-cancel', div-le-self}
+use lib.IntN.{ℤ, pos, negsuc, negℤ, natAbs, _-ℤ_, _*ℤ_, *ℤ-comm, *ℤ-zero, +ℤ-idl}
+use lib.Signed.{_<ℤ_, ltZ, nonNeg, mag, mag-rem, quotZ, remZ}
+use lib.Dec.{T}
+use borrow.Author.Tests.{ltb-true}
+use mir.Syntax.{Width, w64}
+use mir.Val.{SFits, toZ, ofZ}
+use mir.ValLaws.{sfits-le, toZ-ofZ}
+use Rattle.exact.specs.declared.Fraction.{Fraction}
+use Rattle.exact.specs.Fraction.{_≃_, LowestTerms, Reduced}
+use Rattle.exact.specs.Divide.{GreatestCommonDivisor}
+use Rattle.exact.proofs.Whole.{pp-*, nn-*, pp-neg, nn-neg, parts-natAbs, by-parts, lt-parts, *ℤ-cancel, *ℤ-lt-cancel}
+use Rattle.exact.proofs.Ring.{ring, quotes}
+
+-- ---- natural numbers
+
+-- Euclid's step keeps the greatest common divisor, and its end shows it
+pub gcd-step : {x y g : ℕ} → GreatestCommonDivisor y (x % y) g → GreatestCommonDivisor x y g
+gcd-step {x} {y} {g} c =
+    record {
+      left = dvd-mod-iff g (c .left) .0 (c .right);
+      right = c .left;
+      greatest = λ k p q. c .greatest k q (dvd-mod-iff k q .1 p);
+    }
+
+gcd-unstep : {x y g : ℕ} → GreatestCommonDivisor x y g → GreatestCommonDivisor y (x % y) g
+gcd-unstep {x} {y} {g} c =
+    record {
+      left = c .right;
+      right = dvd-mod-iff g (c .right) .1 (c .left);
+      greatest = λ k p q. c .greatest k (dvd-mod-iff k p .0 q) p;
+    }
+
+pub gcd-end : (x : ℕ) → GreatestCommonDivisor x 0 x
+gcd-end x = record { left = dvd-refl x; right = dvd-zero x; greatest = λ k p q. p }
+
+-- what divides a multiple of a and the same multiple of d divides that multiple of their greatest common divisor; by Euclid's steps, fewer than f
+gcd-multiple : (f a d n m g : ℕ) → d < f → GreatestCommonDivisor a d g → n ∣ a * m → n ∣ d * m → n ∣ g * m
+gcd-multiple zero a d n m g h c p q = absurd (omega arith)
+gcd-multiple (suc f) a zero n m g h c p q = dvd-trans n p (mul-dvd-mul-right a (c .greatest a (dvd-refl a) (dvd-zero a)) m)
+gcd-multiple (suc f) a (suc d) n m g h c p q =
+    gcd-multiple f (suc d) (a % suc d) n m g (omega (arith, mod-lt a {m = suc d} (omega arith))) (gcd-unstep c) q
+    (dvd-add-iff-left n (dvd-mul-left-of-dvd n q (a / suc d)) .1 (rw parts at p))
+  where
+    parts : a * m ≡ a % suc d * m + a / suc d * (suc d * m)
+    parts = omega (arith, ap (λ x. x * m) (mod-add-div' a (suc d)))
+
+-- Gauss's lemma
+pub gauss : (a d m : ℕ) → ((k : ℕ) → k ∣ a → k ∣ d → k ≡ 1) → d ∣ a * m → d ∣ m
+gauss a d m h p = rw one-times at (gcd-multiple (suc d) a d d m 1 (omega arith) coprime p (dvd-mul-right d m))
+  where
+    one-times : 1 * m ≡ m
+    one-times = omega arith
+
+    coprime : GreatestCommonDivisor a d 1
+    coprime = record { left = one-dvd a; right = one-dvd d; greatest = λ k p q. rw (h k p q) (dvd-refl 1) }
+
+-- ---- whole numbers
+
+pub natAbs-* : (a b : ℤ) → natAbs (a *ℤ b) ≡ natAbs a * natAbs b
+natAbs-* a b = rw (parts-natAbs (a *ℤ b), pp-*, nn-*, parts-natAbs a, parts-natAbs b) (omega arith)
+
+pub pos-of-above : {z : ℤ} → pos 0 <ℤ z → pos (natAbs z) ≡ z
+pos-of-above {z = pos n} h = refl
+pos-of-above {z = negsuc n} h = absurd (h .lt)
+
+pub natAbs-above : {z : ℤ} → pos 0 <ℤ z → 0 < natAbs z
+natAbs-above {z = pos n} h = omega (arith, lt-parts h)
+natAbs-above {z = negsuc n} h = omega arith
+
+-- the remainder's magnitude
+pub natAbs-rem : (z d : ℤ) → natAbs (remZ z d) ≡ natAbs z % natAbs d
+natAbs-rem (pos a) d = refl
+natAbs-rem (negsuc a) d = rw (parts-natAbs (negℤ (pos (suc a % natAbs d))), pp-neg, nn-neg) (omega arith)
+
+-- a quotient without remainder
+pub quot-exact : (z g : ℤ) → pos 0 <ℤ g → natAbs g ∣ natAbs z → g *ℤ quotZ z g ≡ z
+quot-exact (pos a) (pos g) h p = ap pos (mul-div-cancel' g p)
+quot-exact (negsuc a) (pos g) h p = by-parts _ _ (simp (pp-* (pos g), nn-* (pos g), pp-neg, nn-neg) (omega (arith, mul-div-cancel' g p)))
+quot-exact (pos a) (negsuc g) h p = absurd (h .lt)
+quot-exact (negsuc a) (negsuc g) h p = absurd (h .lt)
+
+-- a quotient is no larger than what is divided
+mag-neg : (n m : ℕ) → n ≤ suc m → mag (negℤ (pos n)) ≤ m
+mag-neg zero m h = omega arith
+mag-neg (suc n) m h = omega arith
+
+mag-quot : (z d : ℤ) → pos 0 <ℤ d → mag (quotZ z d) ≤ mag z
+mag-quot (pos a) (pos d) h = div-le-self a d
+mag-quot (negsuc a) (pos d) h = mag-neg (suc a / d) a (div-le-self (suc a) d)
+mag-quot (pos a) (negsuc d) h = absurd (h .lt)
+mag-quot (negsuc a) (negsuc d) h = absurd (h .lt)
+
+ofZ-above : (w : Width) {d : ℤ} → pos 0 <ℤ d → 0 < ofZ w d
+ofZ-above w {d = pos n} h = omega (arith, lt-parts h)
+ofZ-above w {d = negsuc n} h = absurd (h .lt)
+
+-- a number taken from zero
+pub natAbs-negated : (z : ℤ) → natAbs (pos 0 -ℤ z) ≡ natAbs z
+natAbs-negated z = rw (+ℤ-idl (negℤ z), parts-natAbs (negℤ z), pp-neg, nn-neg, parts-natAbs z) (omega arith)
+
+pub negated-nonneg : (z : ℤ) → ltZ z (pos 0) ≡ true → T (nonNeg (pos 0 -ℤ z))
+negated-nonneg (pos n) e = absurd (omega (arith, ltb-true n 0 e))
+negated-nonneg (negsuc n) e = tt
+
+pub nonneg : (z : ℤ) → ltZ z (pos 0) ≡ false → T (nonNeg z)
+nonneg (pos n) e = tt
+nonneg (negsuc n) e = subst T e tt
+
+-- a magnitude that an i64 holds
+pub fits-of-natAbs : (z : ℤ) → natAbs z < 2 ^ 63 → SFits w64 z
+fits-of-natAbs (pos n) h = record { sfits = h }
+fits-of-natAbs (negsuc n) h = record { sfits = omega arith }
+
+pub natAbs-of-fits : (z : ℤ) → pos 0 <ℤ z → SFits w64 z → natAbs z < 2 ^ 63
+natAbs-of-fits (pos n) h f = f .sfits
+natAbs-of-fits (negsuc n) h f = absurd (h .lt)
+
+-- the machine divides what it reads back from the bits of two numbers that fit: what that asks, and what it gives
+module _ {w : Width} {z d : ℤ} (fz : SFits w z) (fd : SFits w d) (h : pos 0 <ℤ d) where
+  quot-read : quotZ (toZ w (ofZ w z)) (toZ w (ofZ w d)) ≡ quotZ z d
+  quot-read = λ i. quotZ (toZ-ofZ w z fz i) (toZ-ofZ w d fd i)
+
+  rem-read : remZ (toZ w (ofZ w z)) (toZ w (ofZ w d)) ≡ remZ z d
+  rem-read = λ i. remZ (toZ-ofZ w z fz i) (toZ-ofZ w d fd i)
+
+  pub division-asks : (0 < ofZ w d) × SFits w (quotZ (toZ w (ofZ w z)) (toZ w (ofZ w d)))
+  division-asks = (ofZ-above w h, subst (SFits w) (sym quot-read) (sfits-le (mag-quot z d h) fz))
+
+  pub quot-gives : toZ w (ofZ w (quotZ (toZ w (ofZ w z)) (toZ w (ofZ w d)))) ≡ quotZ z d
+  quot-gives = toZ-ofZ w _ (division-asks .1) ∙ quot-read
+
+  pub rem-gives : toZ w (ofZ w (remZ (toZ w (ofZ w z)) (toZ w (ofZ w d)))) ≡ remZ z d
+  rem-gives = toZ-ofZ w _ (subst (SFits w) (sym rem-read) (sfits-le (mag-rem z d) fz)) ∙ rem-read
+
+-- the greatest common divisor of a number and a number above zero, from the second and the remainder
+pub gcd-rem : (z d : ℤ) {a b g : ℕ} → a ≡ natAbs d → b ≡ natAbs (remZ z d) → GreatestCommonDivisor a b g → GreatestCommonDivisor (natAbs z) (natAbs d) g
+gcd-rem z d ea eb c = gcd-step (rw (← natAbs-rem z d, ← ea, ← eb) c)
+
+pub gcd-bounds : {a b g : ℕ} → 0 < b → GreatestCommonDivisor a b g → (0 < g) × (g ≤ b)
+gcd-bounds h c = (pos-of-dvd-of-pos (c .right) h, le-of-dvd h (c .right))
+
+-- ---- fractions
+
+-- divided by the greatest common divisor, a fraction is in lowest terms
+pub reduced-by : (q r : Fraction) (g : ℤ) → pos 0 <ℤ g → pos 0 <ℤ q .den → GreatestCommonDivisor (natAbs (q .num)) (natAbs (q .den)) (natAbs g) → g *ℤ r .num ≡ q .num → g *ℤ r .den ≡ q .den → Reduced q r
+reduced-by q r g hg hd c en ed =
+    record {
+      same = rw (← en, ← ed) (ring (g ∷ r .num ∷ r .den ∷ []) (search quotes depth 12) (search quotes depth 12) refl);
+      lowest =
+          record {
+            above = *ℤ-lt-cancel hg (rw (*ℤ-zero g, ed) hd);
+            reduced = λ k p s. eq-one-of-dvd-one (dvd-of-mul-dvd-mul-left k (natAbs-above hg) (rw times-one (c .greatest (natAbs g * k) (times k (r .num) (q .num) en p) (times k (r .den) (q .den) ed s))));
+          };
+    }
+  where
+    times-one : natAbs g * 1 ≡ natAbs g
+    times-one = omega arith
+
+    times : (k : ℕ) (x y : ℤ) → g *ℤ x ≡ y → k ∣ natAbs x → natAbs g * k ∣ natAbs y
+    times k x y e p = rw (← e, natAbs-*) (mul-dvd-mul-left k (natAbs g) p)
+
+-- fractions in lowest terms are equal only where they are the same
+pub lowest-unique : (p q : Fraction) → LowestTerms p → LowestTerms q → p ≃ q → p ≡ q
+lowest-unique p q hp hq e = λ i. record { num = nums i; den = dens i }
+  where
+    magnitudes : natAbs (p .num) * natAbs (q .den) ≡ natAbs (q .num) * natAbs (p .den)
+    magnitudes = rw (natAbs-* (p .num) (q .den), natAbs-* (q .num) (p .den)) at (ap natAbs e)
+
+    dens : p .den ≡ q .den
+    dens =
+        sym (pos-of-above (hp .above)) ∙
+        ap pos
+        (dvd-antisymm
+        (gauss (natAbs (p .num)) (natAbs (p .den)) (natAbs (q .den)) (hp .reduced) (rw magnitudes (dvd-mul-left (natAbs (p .den)) (natAbs (q .num)))))
+        (gauss (natAbs (q .num)) (natAbs (q .den)) (natAbs (p .den)) (hq .reduced) (rw (← magnitudes) (dvd-mul-left (natAbs (q .den)) (natAbs (p .num)))))) ∙
+        pos-of-above (hq .above)
+
+    nums : p .num ≡ q .num
+    nums = *ℤ-cancel (hq .above) (*ℤ-comm (q .den) (p .num) ∙ e ∙ ap (λ d. q .num *ℤ d) dens ∙ *ℤ-comm (q .num) (q .den))
+
+-- zero in lowest terms is 0/1
+pub lowest-zero : (p : Fraction) → LowestTerms p → p .num ≡ pos 0 → p .den ≡ pos 1
+lowest-zero p h e = sym (pos-of-above (h .above)) ∙ ap pos (h .reduced (natAbs (p .den)) (rw e (dvd-zero (natAbs (p .den)))) (dvd-refl (natAbs (p .den))))

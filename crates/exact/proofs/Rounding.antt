@@ -1,0 +1,298 @@
+-- IEEE 754's roundTiesToAway: the nearest whole number, and of two as near the one further from zero; how the code finds it, and when refusal 12 is met.
+use mathlib.Core.Path.{_≡_, refl, sym, _∙_, ap, ap₂}
+use mathlib.Core.Logic.{_⊎_, inl, inr, ⊎-elim}
+use mathlib.Core.Bool.{Bool, true, false, cond, _&&_}
+use mathlib.Core.List.{List, [], _∷_}
+use Prim.Native.Nat.{ℕ, zero, suc, _+_, _*_, _-_, _/_, _%_, _≤_, _<_, _^_}
+use native.Mathlib.Omega.{arith}
+use native.Mathlib.Nat.{div-add-mod', mod-lt}
+use lib.Dec.{ltb, leb}
+use borrow.Author.Tests.{ltb-true, ltb-false, lt-ltb, le-ltb, leb-true, le-leb}
+use lib.IntN.{ℤ, pos, negsuc, negℤ, natAbs, _+ℤ_, _-ℤ_, _*ℤ_, negℤ-+ℤ}
+use lib.Signed.{_≤ℤ_, _<ℤ_, leZ, ltZ, quotZ, remZ}
+use mir.Syntax.{w64}
+use mir.Val.{SFits}
+use Rattle.exact.specs.declared.Fraction.{Fraction}
+use Rattle.exact.specs.declared.Rounded.the-variants.{Whole, Refused}
+use Rattle.exact.specs.Divide.{InRange}
+use Rattle.exact.specs.Round.{nearestMagnitude, roundTiesToAway, withinPlaces, rounded}
+use Rattle.exact.proofs.Whole.{pp, nn, parts-+, pp-neg, nn-neg, le-parts, parts-le, lt-parts, parts-lt, one-part, parts-natAbs, negℤ-*ℤ, le-antisym, le-of-lt, not-le-of-lt, le-or-lt, *ℤ-le}
+use Rattle.exact.proofs.Ring.{quotes, le-given, le-goal}
+use Rattle.exact.proofs.Quotient.{natAbs-neg, natAbs-*, natAbs-+, above-natAbs, natAbs-rem, lt-of-test, le-of-test, leZ-of-test, test-of-leZ, next-le, kept, fits-as, kept-as, den-kept, quot-small, quot-kept, rem-small, rem-kept}
+
+-- ---- examples
+
+minus-three-halves : roundTiesToAway (negsuc 2) (pos 2) ≡ negsuc 1
+unfolding roundTiesToAway
+minus-three-halves = refl
+
+nine-halves : roundTiesToAway (pos 9) (pos 2) ≡ pos 5
+unfolding roundTiesToAway
+nine-halves = refl
+
+-- ---- the quotient, or the whole number next to it
+
+-- the rest is below a half
+pub round-whole : (num den : ℤ) → pos 0 <ℤ den → 2 * natAbs (remZ num den) < natAbs den → quotZ num den ≡ roundTiesToAway num den
+unfolding roundTiesToAway
+round-whole (pos a) (pos d) h k = rw (lt-ltb (2 * (a % d)) d k)
+round-whole (negsuc a) (pos d) h k = rw (lt-ltb (2 * (suc a % d)) d (omega (arith, natAbs-rem (negsuc a) (pos d))))
+round-whole (pos a) (negsuc d) h k = absurd (omega (arith, lt-parts h))
+round-whole (negsuc a) (negsuc d) h k = absurd (omega (arith, lt-parts h))
+
+-- it is a half or more, above zero
+pub round-up : (num den : ℤ) → pos 0 <ℤ den → pos 0 ≤ℤ remZ num den → natAbs den ≤ 2 * natAbs (remZ num den) → quotZ num den +ℤ pos 1 ≡ roundTiesToAway num den
+unfolding roundTiesToAway
+round-up (pos a) (pos d) h s k = rw (le-ltb (2 * (a % d)) d k)
+round-up (negsuc a) (pos d) h s k = absurd (omega (arith, lt-parts h, le-parts s, pp-neg (pos (suc a % d)), nn-neg (pos (suc a % d)), natAbs-rem (negsuc a) (pos d)))
+round-up (pos a) (negsuc d) h s k = absurd (omega (arith, lt-parts h))
+round-up (negsuc a) (negsuc d) h s k = absurd (omega (arith, lt-parts h))
+
+-- it is a half or more, below zero
+pub round-down : (num den : ℤ) → pos 0 <ℤ den → remZ num den <ℤ pos 0 → natAbs den ≤ 2 * natAbs (remZ num den) → quotZ num den -ℤ pos 1 ≡ roundTiesToAway num den
+unfolding roundTiesToAway
+round-down (pos a) den h s k = absurd (omega (arith, lt-parts s))
+round-down (negsuc a) (pos d) h s k = rw (le-ltb (2 * (suc a % d)) d (omega (arith, natAbs-rem (negsuc a) (pos d)))) (sym (negℤ-+ℤ (pos (suc a / d)) (pos 1)))
+round-down (negsuc a) (negsuc d) h s k = absurd (omega (arith, lt-parts h))
+
+-- ---- how far the rounded number is off
+
+-- x is below a by less than a half of d, or above it by at most a half
+abbrev Near : ℕ → ℕ → ℕ → Type 0
+Near a d x = ((x ≤ a) × (2 * (a - x) < d)) ⊎ ((a ≤ x) × (2 * (x - a) ≤ d))
+
+near : (a d : ℕ) → 0 < d → Near a d (nearestMagnitude a d * d)
+near a d h = go (ltb (2 * (a % d)) d) refl
+  where
+    go : (t : Bool) → ltb (2 * (a % d)) d ≡ t → Near a d (cond t (a / d) (a / d + 1) * d)
+    go true e = inl (omega (arith, div-add-mod' a d), omega (arith, div-add-mod' a d, ltb-true (2 * (a % d)) d e))
+    go false e =
+        inr
+        (omega (arith, div-add-mod' a d, mod-lt a h), omega (arith, div-add-mod' a d, mod-lt a h, ltb-false (2 * (a % d)) d e))
+
+gap-natAbs : (x a : ℕ) → natAbs (pos x -ℤ pos a) ≡ (x - a) + (a - x)
+gap-natAbs x a =
+    ⊎-elim
+    (λ (e : nn (pos x -ℤ pos a) ≡ 0). omega (arith, parts-natAbs (pos x -ℤ pos a), parts-+ (pos x) (negℤ (pos a)), pp-neg (pos a), nn-neg (pos a)))
+    (λ (e : pp (pos x -ℤ pos a) ≡ 0). omega (arith, parts-natAbs (pos x -ℤ pos a), parts-+ (pos x) (negℤ (pos a)), pp-neg (pos a), nn-neg (pos a)))
+    (one-part (pos x -ℤ pos a))
+
+-- the distance of the rounded number from num/den, times den: the same on either side of zero
+error : (num den : ℤ) → pos 0 <ℤ den → natAbs (roundTiesToAway num den *ℤ den -ℤ num) ≡ (nearestMagnitude (natAbs num) (natAbs den) * natAbs den - natAbs num) + (natAbs num - nearestMagnitude (natAbs num) (natAbs den) * natAbs den)
+unfolding roundTiesToAway
+error (pos a) (pos d) h = gap-natAbs (nearestMagnitude a d * d) a
+error (negsuc a) (pos d) h =
+    ap (λ (v : ℤ). natAbs (v -ℤ negsuc a)) (negℤ-*ℤ (pos (nearestMagnitude (suc a) d)) (pos d))
+    ∙ ap natAbs (sym (negℤ-+ℤ (pos (nearestMagnitude (suc a) d * d)) (negsuc a)))
+    ∙ natAbs-neg (pos (nearestMagnitude (suc a) d * d) -ℤ pos (suc a))
+    ∙ gap-natAbs (nearestMagnitude (suc a) d * d) (suc a)
+error (pos a) (negsuc d) h = absurd (omega (arith, lt-parts h))
+error (negsuc a) (negsuc d) h = absurd (omega (arith, lt-parts h))
+
+natAbs-round : (num den : ℤ) → natAbs (roundTiesToAway num den) ≡ nearestMagnitude (natAbs num) (natAbs den)
+unfolding roundTiesToAway
+natAbs-round (pos a) den = refl
+natAbs-round (negsuc a) den = natAbs-neg (pos (nearestMagnitude (suc a) (natAbs den)))
+
+-- of the multiples of d the one within a half of d is the nearest to n
+module _ (r z d n : ℤ) (above : pos 0 <ℤ d) (half : 2 * natAbs (r *ℤ d -ℤ n) ≤ natAbs d) where
+  before : z <ℤ r → natAbs (r *ℤ d -ℤ n) ≤ natAbs (z *ℤ d -ℤ n)
+  before h =
+      let ρ : List ℤ = r ∷ z ∷ d ∷ n ∷ [] in
+      let k : (z *ℤ d -ℤ n +ℤ d) ≤ℤ (r *ℤ d -ℤ n) =
+      le-goal ρ (search quotes depth 12) (search quotes depth 12)
+      (omega (arith, le-given ρ (search quotes depth 12) (search quotes depth 12) (*ℤ-le (le-of-lt above) (next-le h)))) in
+      omega
+      (arith, above-natAbs above, le-parts k, parts-+ (z *ℤ d -ℤ n) d, parts-natAbs (r *ℤ d -ℤ n), parts-natAbs (z *ℤ d -ℤ n))
+
+  after : r <ℤ z → natAbs (r *ℤ d -ℤ n) ≤ natAbs (z *ℤ d -ℤ n)
+  after h =
+      let ρ : List ℤ = r ∷ z ∷ d ∷ n ∷ [] in
+      let k : (r *ℤ d -ℤ n +ℤ d) ≤ℤ (z *ℤ d -ℤ n) =
+      le-goal ρ (search quotes depth 12) (search quotes depth 12)
+      (omega (arith, le-given ρ (search quotes depth 12) (search quotes depth 12) (*ℤ-le (le-of-lt above) (next-le h)))) in
+      omega
+      (arith, above-natAbs above, le-parts k, parts-+ (r *ℤ d -ℤ n) d, parts-natAbs (r *ℤ d -ℤ n), parts-natAbs (z *ℤ d -ℤ n))
+
+  nearest-of : natAbs (r *ℤ d -ℤ n) ≤ natAbs (z *ℤ d -ℤ n)
+  nearest-of = go (le-or-lt r z) (le-or-lt z r)
+    where
+      go : (r ≤ℤ z) ⊎ (z <ℤ r) → (z ≤ℤ r) ⊎ (r <ℤ z) → natAbs (r *ℤ d -ℤ n) ≤ natAbs (z *ℤ d -ℤ n)
+      go (inr h) k = before h
+      go (inl h) (inr k) = after k
+      go (inl h) (inl k) = omega (arith, ap (λ (v : ℤ). natAbs (v *ℤ d -ℤ n)) (le-antisym h k))
+
+-- ---- the laws of IEEE 754
+
+module _ (num den : ℤ) (above : pos 0 <ℤ den) where
+  rounded-near : Near (natAbs num) (natAbs den) (nearestMagnitude (natAbs num) (natAbs den) * natAbs den)
+  rounded-near = near (natAbs num) (natAbs den) (omega (arith, above-natAbs above))
+
+  -- the error is at most a half
+  pub within-half : 2 * natAbs (roundTiesToAway num den *ℤ den -ℤ num) ≤ natAbs den
+  within-half = go rounded-near
+    where
+      go : Near (natAbs num) (natAbs den) (nearestMagnitude (natAbs num) (natAbs den) * natAbs den) → 2 * natAbs (roundTiesToAway num den *ℤ den -ℤ num) ≤ natAbs den
+      go (inl w) = omega (arith, error num den above)
+      go (inr w) = omega (arith, error num den above)
+
+  -- no whole number is nearer
+  pub nearest : (z : ℤ) → natAbs (roundTiesToAway num den *ℤ den -ℤ num) ≤ natAbs (z *ℤ den -ℤ num)
+  nearest z = nearest-of (roundTiesToAway num den) z den num above within-half
+
+  -- a half goes away from zero
+  pub ties-away : 2 * natAbs (roundTiesToAway num den *ℤ den -ℤ num) ≡ natAbs den → natAbs num ≤ natAbs (roundTiesToAway num den *ℤ den)
+  ties-away half = go rounded-near
+    where
+      size : natAbs (roundTiesToAway num den *ℤ den) ≡ nearestMagnitude (natAbs num) (natAbs den) * natAbs den
+      size = natAbs-* (roundTiesToAway num den) den ∙ ap (λ (m : ℕ). m * natAbs den) (natAbs-round num den)
+
+      go : Near (natAbs num) (natAbs den) (nearestMagnitude (natAbs num) (natAbs den) * natAbs den) → natAbs num ≤ natAbs (roundTiesToAway num den *ℤ den)
+      go (inl w) = absurd (omega (arith, error num den above))
+      go (inr w) = omega (arith, size)
+
+-- ---- the code's tests and its numbers in 64 bits
+
+-- twice the rest's magnitude, by its sign, against the denominator
+twice-down : (r d : ℤ) → r <ℤ pos 0 → pos 0 <ℤ d → ((pos 2 *ℤ (pos 0 -ℤ r)) <ℤ d → 2 * natAbs r < natAbs d) × (d ≤ℤ (pos 2 *ℤ (pos 0 -ℤ r)) → natAbs d ≤ 2 * natAbs r)
+twice-down (negsuc n) (pos d) h k = ((λ l. omega (arith, lt-parts l)), (λ l. omega (arith, le-parts l)))
+twice-down (pos n) d h k = absurd (omega (arith, lt-parts h))
+twice-down (negsuc n) (negsuc d) h k = absurd (omega (arith, lt-parts k))
+
+twice-up : (r d : ℤ) → pos 0 ≤ℤ r → pos 0 <ℤ d → ((pos 2 *ℤ r) <ℤ d → 2 * natAbs r < natAbs d) × (d ≤ℤ (pos 2 *ℤ r) → natAbs d ≤ 2 * natAbs r)
+twice-up (pos n) (pos d) h k = ((λ l. omega (arith, lt-parts l)), (λ l. omega (arith, le-parts l)))
+twice-up (negsuc n) d h k = absurd (omega (arith, le-parts h))
+twice-up (pos n) (negsuc d) h k = absurd (omega (arith, lt-parts k))
+
+-- the whole part and the rest, as they are read back
+abbrev part : Fraction → ℤ
+part q = kept (quotZ (kept (q .num)) (kept (q .den)))
+
+abbrev rest : Fraction → ℤ
+rest q = kept (remZ (kept (q .num)) (kept (q .den)))
+
+module _ (q : Fraction) (ok : InRange q) where
+  away-small : natAbs (pos 0 -ℤ remZ (q .num) (q .den)) < 518400
+  away-small = omega (arith, rem-small q ok, natAbs-+ (pos 0) (negℤ (remZ (q .num) (q .den))), natAbs-neg (remZ (q .num) (q .den)))
+
+  pub away-asks : SFits w64 (pos 0 -ℤ rest q)
+  away-asks = fits-as (ap (λ (v : ℤ). pos 0 -ℤ v) (rem-kept q ok)) (omega (arith, away-small))
+
+  away-kept : kept (pos 0 -ℤ rest q) ≡ pos 0 -ℤ remZ (q .num) (q .den)
+  away-kept = kept-as (ap (λ (v : ℤ). pos 0 -ℤ v) (rem-kept q ok)) (omega (arith, away-small))
+
+  twice-away-small : natAbs (pos 2 *ℤ (pos 0 -ℤ remZ (q .num) (q .den))) < 2 ^ 63
+  twice-away-small = omega (arith, away-small, natAbs-* (pos 2) (pos 0 -ℤ remZ (q .num) (q .den)))
+
+  pub twice-away-asks : SFits w64 (pos 2 *ℤ kept (pos 0 -ℤ rest q))
+  twice-away-asks = fits-as (ap (λ (v : ℤ). pos 2 *ℤ v) away-kept) twice-away-small
+
+  twice-away-kept : kept (pos 2 *ℤ kept (pos 0 -ℤ rest q)) ≡ pos 2 *ℤ (pos 0 -ℤ remZ (q .num) (q .den))
+  twice-away-kept = kept-as (ap (λ (v : ℤ). pos 2 *ℤ v) away-kept) twice-away-small
+
+  twice-small : natAbs (pos 2 *ℤ remZ (q .num) (q .den)) < 2 ^ 63
+  twice-small = omega (arith, rem-small q ok, natAbs-* (pos 2) (remZ (q .num) (q .den)))
+
+  pub twice-asks : SFits w64 (pos 2 *ℤ rest q)
+  twice-asks = fits-as (ap (λ (v : ℤ). pos 2 *ℤ v) (rem-kept q ok)) twice-small
+
+  twice-kept : kept (pos 2 *ℤ rest q) ≡ pos 2 *ℤ remZ (q .num) (q .den)
+  twice-kept = kept-as (ap (λ (v : ℤ). pos 2 *ℤ v) (rem-kept q ok)) twice-small
+
+  next-small : natAbs (quotZ (q .num) (q .den) +ℤ pos 1) < 2 ^ 63
+  next-small = omega (arith, quot-small q ok, natAbs-+ (quotZ (q .num) (q .den)) (pos 1))
+
+  pub next-asks : SFits w64 (part q +ℤ pos 1)
+  next-asks = fits-as (ap (λ (v : ℤ). v +ℤ pos 1) (quot-kept q ok)) next-small
+
+  last-small : natAbs (quotZ (q .num) (q .den) -ℤ pos 1) < 2 ^ 63
+  last-small = omega (arith, quot-small q ok, natAbs-+ (quotZ (q .num) (q .den)) (negℤ (pos 1)))
+
+  pub last-asks : SFits w64 (part q -ℤ pos 1)
+  last-asks = fits-as (ap (λ (v : ℤ). v -ℤ pos 1) (quot-kept q ok)) last-small
+
+  -- what the code gives in each of its four ways
+  below-zero : ltZ (rest q) (pos 0) ≡ true → remZ (q .num) (q .den) <ℤ pos 0
+  below-zero e = lt-of-test (ap (λ (v : ℤ). ltZ v (pos 0)) (sym (rem-kept q ok)) ∙ e)
+
+  from-zero : ltZ (rest q) (pos 0) ≡ false → pos 0 ≤ℤ remZ (q .num) (q .den)
+  from-zero e = le-of-test (ap (λ (v : ℤ). ltZ v (pos 0)) (sym (rem-kept q ok)) ∙ e)
+
+  down-test : ltZ (kept (pos 2 *ℤ kept (pos 0 -ℤ rest q))) (kept (q .den)) ≡ ltZ (pos 2 *ℤ (pos 0 -ℤ remZ (q .num) (q .den))) (q .den)
+  down-test = ap₂ ltZ twice-away-kept (den-kept q ok)
+
+  up-test : ltZ (kept (pos 2 *ℤ rest q)) (kept (q .den)) ≡ ltZ (pos 2 *ℤ remZ (q .num) (q .den)) (q .den)
+  up-test = ap₂ ltZ twice-kept (den-kept q ok)
+
+  pub whole-below : ltZ (rest q) (pos 0) ≡ true → ltZ (kept (pos 2 *ℤ kept (pos 0 -ℤ rest q))) (kept (q .den)) ≡ true → part q ≡ roundTiesToAway (q .num) (q .den)
+  whole-below s t =
+      quot-kept q ok
+      ∙ round-whole (q .num) (q .den) (ok .above)
+      (twice-down (remZ (q .num) (q .den)) (q .den) (below-zero s) (ok .above) .0 (lt-of-test (sym down-test ∙ t)))
+
+  pub last-below : ltZ (rest q) (pos 0) ≡ true → ltZ (kept (pos 2 *ℤ kept (pos 0 -ℤ rest q))) (kept (q .den)) ≡ false → kept (part q -ℤ pos 1) ≡ roundTiesToAway (q .num) (q .den)
+  last-below s t =
+      kept-as (ap (λ (v : ℤ). v -ℤ pos 1) (quot-kept q ok)) last-small
+      ∙ round-down (q .num) (q .den) (ok .above) (below-zero s)
+      (twice-down (remZ (q .num) (q .den)) (q .den) (below-zero s) (ok .above) .1 (le-of-test (sym down-test ∙ t)))
+
+  pub whole-above : ltZ (rest q) (pos 0) ≡ false → ltZ (kept (pos 2 *ℤ rest q)) (kept (q .den)) ≡ true → part q ≡ roundTiesToAway (q .num) (q .den)
+  whole-above s t =
+      quot-kept q ok
+      ∙ round-whole (q .num) (q .den) (ok .above)
+      (twice-up (remZ (q .num) (q .den)) (q .den) (from-zero s) (ok .above) .0 (lt-of-test (sym up-test ∙ t)))
+
+  pub next-above : ltZ (rest q) (pos 0) ≡ false → ltZ (kept (pos 2 *ℤ rest q)) (kept (q .den)) ≡ false → kept (part q +ℤ pos 1) ≡ roundTiesToAway (q .num) (q .den)
+  next-above s t =
+      kept-as (ap (λ (v : ℤ). v +ℤ pos 1) (quot-kept q ok)) next-small
+      ∙ round-up (q .num) (q .den) (ok .above) (from-zero s)
+      (twice-up (remZ (q .num) (q .den)) (q .den) (from-zero s) (ok .above) .1 (le-of-test (sym up-test ∙ t)))
+
+-- ---- refusal 12
+
+and-three : (t u v : Bool) → (t && u && v) ≡ true → (t ≡ true) × ((u ≡ true) × (v ≡ true))
+and-three true true true e = (refl, (refl, refl))
+and-three true true false e = let z : _≡_ {A = ℕ} 0 1 = cc in absurd (omega arith)
+and-three true false v e = let z : _≡_ {A = ℕ} 0 1 = cc in absurd (omega arith)
+and-three false u v e = let z : _≡_ {A = ℕ} 0 1 = cc in absurd (omega arith)
+
+-- a number within 5,472,000,000 either way
+num-within : (num : ℤ) → negsuc 5471999999 ≤ℤ num → num ≤ℤ pos 5472000000 → natAbs num ≤ 5472000000
+num-within (pos n) h k = omega (arith, le-parts k)
+num-within (negsuc n) h k = omega (arith, le-parts h)
+
+module _ (num den : ℤ) where
+  pub within-places : pos 1 ≤ℤ den → den ≤ℤ pos 4800 → negsuc 5471999999 ≤ℤ num → num ≤ℤ pos 5472000000 → Whole (roundTiesToAway num den) ≡ rounded num den
+  unfolding rounded withinPlaces
+  within-places h k l m = rw (test-of-leZ h, test-of-leZ k, le-leb (natAbs num) 5472000000 (num-within num l m))
+
+  pub in-range : pos 1 ≤ℤ den → den ≤ℤ pos 4800 → negsuc 5471999999 ≤ℤ num → num ≤ℤ pos 5472000000 → InRange (record { num = num; den = den })
+  in-range h k l m =
+      record {
+        above = parts-lt (omega (arith, le-parts h));
+        den-most = parts-le (omega (arith, le-parts k));
+        num-most = omega (arith, num-within num l m);
+      }
+
+  refuses : (pos 1 ≤ℤ den → den ≤ℤ pos 4800 → natAbs num ≤ 5472000000 → ⊥) → Refused (record { number = 12; place = 0; ring = 0 }) ≡ rounded num den
+  unfolding rounded withinPlaces
+  refuses out = go (withinPlaces num den) refl
+    where
+      parts : withinPlaces num den ≡ true → (leZ (pos 1) den ≡ true) × ((leZ den (pos 4800) ≡ true) × (leb (natAbs num) 5472000000 ≡ true))
+      parts e = and-three (leZ (pos 1) den) (leZ den (pos 4800)) (leb (natAbs num) 5472000000) e
+
+      go : (t : Bool) → withinPlaces num den ≡ t → Refused (record { number = 12; place = 0; ring = 0 }) ≡ cond t (Whole (roundTiesToAway num den)) (Refused (record { number = 12; place = 0; ring = 0 }))
+      go false e = refl
+      go true e = absurd (out (leZ-of-test (parts e .0)) (leZ-of-test (parts e .1 .0)) (leb-true (natAbs num) 5472000000 (parts e .1 .1)))
+
+  pub refuses-den-low : den <ℤ pos 1 → Refused (record { number = 12; place = 0; ring = 0 }) ≡ rounded num den
+  refuses-den-low h = refuses (λ a b n. not-le-of-lt h a)
+
+  pub refuses-den-high : pos 4800 <ℤ den → Refused (record { number = 12; place = 0; ring = 0 }) ≡ rounded num den
+  refuses-den-high h = refuses (λ a b n. not-le-of-lt h b)
+
+  pub refuses-num-low : num <ℤ negsuc 5471999999 → Refused (record { number = 12; place = 0; ring = 0 }) ≡ rounded num den
+  refuses-num-low h = refuses (λ a b (n : natAbs num ≤ 5472000000). omega (arith, lt-parts h, parts-natAbs num))
+
+  pub refuses-num-high : pos 5472000000 <ℤ num → Refused (record { number = 12; place = 0; ring = 0 }) ≡ rounded num den
+  refuses-num-high h = refuses (λ a b (n : natAbs num ≤ 5472000000). omega (arith, lt-parts h, parts-natAbs num))

@@ -1,0 +1,3 @@
+pub mod Facts
+pub mod Demand3
+pub mod WrongParts

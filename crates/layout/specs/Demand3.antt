@@ -1,0 +1,38 @@
+-- Demand 3, the largest-move law (document 01, "What a station lends"), of two layout calls. Each is lent its gaps as three lists or as records: "the pair may be one of each".
+use Prim.Native.Nat.{ℕ, _<_}
+use mathlib.Core.Path.{_≡_}
+use mathlib.Core.Logic.{_↔_}
+use lib.ListN.{getD}
+use lib.IntN.{ℤ, pos}
+use Rattle.exact.specs.declared.Fraction.{Fraction}
+use Rattle.exact.specs.Fraction.{IsFraction, _≼_, whole}
+use Rattle.least_move.specs.declared.Label.{Label}
+use Rattle.least_move.specs.Placement.{LeastMove}
+use Rattle.least_move.specs.Moved.{Within}
+use Rattle.layout.specs.declared.Answer.{Answer}
+use Rattle.layout.specs.declared.Answer.the-variants.{Placed}
+use Rattle.layout.specs.Lent.{Read, Written, labelCount, gapCount, recordAt, sheetOf, placeOf}
+use Rattle.layout.specs.Refusals.{pass, table}
+
+-- "Two sheets have the same weights and gaps if they have as many labels and as many gaps and agree, number by number, in weight, left, right and distance"
+pub record SameSheets (r r′ : Read) : Type 0 where
+  pub labels : labelCount r′ ≡ labelCount r
+  pub gaps : gapCount r′ ≡ gapCount r
+  pub weight : (k : ℕ) → k < labelCount r → getD (r′ .weight) k (pos 0) ≡ getD (r .weight) k (pos 0)
+  pub gap : (k : ℕ) → k < gapCount r → recordAt (r′ .gaps) k ≡ recordAt (r .gaps) k
+
+-- the wanted place of a label
+abbrev pub wantOf : Read → Label → ℤ
+wantOf r i = getD (r .wanted) (i .0) (pos 0)
+
+-- Of two calls on sheets that have the same weights and gaps. "A sheet is accepted if its call answers placed"; the records and buffers lent to write may differ in all they hold.
+pub record Demand3 (r : Read) (w : Written) (a : Answer) (after : Written) (r′ : Read) (w′ : Written) (a′ : Answer) (after′ : Written) : Type 0 where
+  -- where the table lets both pass, both are accepted or neither
+  pub both-or-neither : table r w ≡ pass → table r′ w′ ≡ pass → (a ≡ Placed) ↔ (a′ ≡ Placed)
+  -- the places are the least moves of demand 2
+  pub least : a ≡ Placed → LeastMove (sheetOf r) (placeOf after)
+  pub least′ : a′ ≡ Placed → LeastMove (sheetOf r′) (placeOf after′)
+  -- no place moves by more than a distance if no want does: "Differences are taken without sign, and a distance is any fraction from zero up"
+  pub largest-move : a ≡ Placed → a′ ≡ Placed → (q : Fraction) → IsFraction q → whole (pos 0) ≼ q → ((i : Label) → i .0 < labelCount r → Within q (whole (wantOf r i)) (whole (wantOf r′ i))) → (i : Label) → i .0 < labelCount r → Within q (placeOf after i) (placeOf after′ i)
+  -- at distance zero the numbers written are the same
+  pub same-wants : a ≡ Placed → a′ ≡ Placed → ((i : Label) → i .0 < labelCount r → wantOf r i ≡ wantOf r′ i) → (k : ℕ) → k < labelCount r → (getD (after .place-num) k (pos 0) ≡ getD (after′ .place-num) k (pos 0)) × (getD (after .place-den) k (pos 0) ≡ getD (after′ .place-den) k (pos 0))

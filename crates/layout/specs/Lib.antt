@@ -1,0 +1,4 @@
+pub mod Lent
+pub mod Refusals
+pub mod Promise
+pub mod Demand3

@@ -1,0 +1,94 @@
+-- What a layout call owes: its number, its place and every lent entry afterwards (document 01, "What a station lends", "Refusal table", "What is owed by each public entry").
+use Prim.Native.Nat.{ℕ, suc, _≤_, _<_}
+use mathlib.Core.Path.{_≡_}
+use mathlib.Core.Logic.{_⊎_}
+use mathlib.Core.Bool.{Bool, true, false}
+use mathlib.Core.List.{List, [], _∷_, map}
+use lib.Dec.{eqb}
+use lib.ListN.{length, getD, take, drop}
+use Rattle.exact.specs.Fraction.{LowestTerms}
+use Rattle.exact.specs.declared.Refusal.{Refusal}
+use Rattle.layout.specs.declared.Answer.{Answer}
+use Rattle.layout.specs.declared.Answer.the-variants.{Placed, Refused}
+use Rattle.least_move.specs.declared.Label.{Label}
+use Rattle.least_move.specs.declared.GapNumber.{GapNumber}
+use Rattle.least_move.specs.Sheet.{Sheet, gapNumber}
+use Rattle.least_move.specs.Placement.{Placement, Feasible, LeastMove}
+use Rattle.least_move.specs.Multipliers.{Conditions}
+use Rattle.least_move.specs.Marks.{Marks, Step}
+use Rattle.least_move.specs.Ring.{Ring}
+use Rattle.layout.specs.Lent.{Read, Written, labelCount, gapCount, sheetOf, placeOf, multiplierOf}
+use Rattle.layout.specs.Refusals.{Verdict, refuse, pass, table}
+
+-- this paper's number and values for each case of an answer: 0 for placed
+abbrev pub numberOf : Answer → ℕ
+numberOf Placed = 0
+numberOf (Refused r) = r .number
+
+abbrev pub placedAt : Answer → ℕ
+placedAt Placed = 0
+placedAt (Refused r) = r .place
+
+abbrev pub ringLengthOf : Answer → ℕ
+ringLengthOf Placed = 0
+ringLengthOf (Refused r) = r .ring
+
+-- the refusal of a number at a place, with a ring's length
+abbrev pub refusal : ℕ → ℕ → ℕ → Answer
+refusal number place ring = Refused (record { number = number; place = place; ring = ring })
+
+-- a list whose first n entries were written: "Entries beyond stay"
+pub record Filled {A : Type 0} (n : ℕ) (before after : List A) : Type 0 where
+  pub size : length after ≡ length before
+  pub beyond : drop n after ≡ drop n before
+
+-- the carried byte of a gap: "1 for marked gaps, else 0"
+abbrev pub byteAt : Written → GapNumber → ℕ
+byteAt w e = getD (w .carried) (e .0) 0
+
+abbrev pub markOf : Written → GapNumber → Bool
+markOf w e = eqb (byteAt w e) 1
+
+-- "Accepted: the first entries, one per label or gap, hold fractions in lowest terms .. Entries beyond stay. The ring buffer stays. The carried record holds 1 for marked gaps, else 0"
+pub record Accepted (r : Read) (w after : Written) : Type 0 where
+  pub place-nums : Filled (labelCount r) (w .place-num) (after .place-num)
+  pub place-dens : Filled (labelCount r) (w .place-den) (after .place-den)
+  pub mult-nums : Filled (gapCount r) (w .mult-num) (after .mult-num)
+  pub mult-dens : Filled (gapCount r) (w .mult-den) (after .mult-den)
+  pub ring : after .ring ≡ w .ring
+  pub carried : length (after .carried) ≡ length (w .carried)
+  pub least : LeastMove (sheetOf r) (placeOf after)
+  pub conditions : Conditions (sheetOf r) (placeOf after) (multiplierOf after)
+  pub marks : Marks (sheetOf r) (placeOf after) (multiplierOf after) (markOf after)
+  pub bytes : (e : GapNumber) → e .0 < gapCount r → byteAt after e ≤ 1
+  pub places-lowest : (i : Label) → i .0 < labelCount r → LowestTerms (placeOf after i)
+  pub multipliers-lowest : (e : GapNumber) → e .0 < gapCount r → LowestTerms (multiplierOf after e)
+
+-- a gap number as a step that is passed forwards, as every gap of document 01 is
+abbrev pub forwards : ℕ → Step
+forwards e = record { by = gapNumber e; backwards = false }
+
+-- "9 fills the front of the ring buffer with gap numbers such that .. The rest of it stays"; everything else stays too
+pub record RingGiven (r : Read) (w after : Written) (size : ℕ) : Type 0 where
+  pub first : ℕ
+  pub others : List ℕ
+  pub front : take size (after .ring) ≡ first ∷ others
+  pub counted : size ≡ suc (length others)
+  pub ring : Ring (sheetOf r) (forwards first) (map forwards others)
+  pub rest : Filled size (w .ring) (after .ring)
+  pub stays : after ≡ record { place-num = w .place-num; place-den = w .place-den; mult-num = w .mult-num; mult-den = w .mult-den; ring = after .ring; carried = w .carried }
+
+-- a sheet that the table lets pass is placed, or refused with 9 and place 0 because no placement meets all gaps
+abbrev pub Judged : Read → Written → Answer → Written → Type 0
+Judged r w a after =
+    ((a ≡ Placed) × Accepted r w after)
+    ⊎ ((a ≡ refusal 9 0 (ringLengthOf a)) × ((p : Placement) → ¬ (Feasible (sheetOf r) p)) × RingGiven r w after (ringLengthOf a))
+
+-- "A refused call writes nothing"
+abbrev pub ByTable : Verdict → Read → Written → Answer → Written → Type 0
+ByTable (refuse number place) r w a after = (a ≡ refusal number place 0) × (after ≡ w)
+ByTable pass r w a after = Judged r w a after
+
+-- the whole promise of a layout call
+pub record Promise (r : Read) (w : Written) (a : Answer) (after : Written) : Type 0 where
+  pub kept : ByTable (table r w) r w a after

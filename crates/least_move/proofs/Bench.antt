@@ -1,0 +1,272 @@
+-- The cases of the bench are right: one test computed over the whole list, and one theorem, that what passes the test is right.
+use Prim.Native.Nat.{ℕ, zero, suc, _%_, _∣_, _<_}
+use mathlib.Core.Path.{_≡_, refl, ap, subst, subst⁻¹}
+use mathlib.Core.Logic.{_≢_, _⊎_, inl, inr, ⊎-elim}
+use mathlib.Core.Bool.{Bool, true, false, not, _&&_, _||_}
+use mathlib.Core.List.{List, [], _∷_, map, List·Memᴰ, List·Memᴰ·not-nil, List·Memᴰ·cases-cons}
+use native.Mathlib.Omega.{arith}
+use native.Mathlib.Decide.{decLt}
+use native.Mathlib.Nat.{mod-eq-zero-of-dvd, le-of-dvd}
+use lib.Dec.{T, T-not, eqb, ltb, eqb→eq, eqb-refl, ltb→lt}
+use lib.IntN.{ℤ, pos, natAbs}
+use lib.Signed.{_≤ℤ_, _<ℤ_, leZ, ltZ}
+use Rattle.exact.specs.declared.Fraction.{Fraction}
+use Rattle.exact.specs.Fraction.{LowestTerms}
+use Rattle.exact.specs.Sum.{total}
+use Rattle.exact.proofs.Whole.{le-antisym, lt-parts, parts-natAbs}
+use Rattle.least_move.specs.declared.Label.{Label}
+use Rattle.least_move.specs.declared.GapNumber.{GapNumber}
+use Rattle.least_move.specs.Sheet.{Sheet, Kind, at-least, exactly, ignored, Proper, label, gapNumber}
+use Rattle.least_move.specs.Placement.{Placement, Asks, Feasible, LeastMove, reach}
+use Rattle.least_move.specs.Multipliers.{Multipliers, Lawful, Conditions}
+use Rattle.least_move.specs.Marks.{Step, start, finish, Leads, Each}
+use Rattle.least_move.specs.Ring.{Ring, Passable, OnceLeft}
+use Rattle.least_move.specs.Bench.{WrittenGap, Placed, Refused, Moved, Case, placed, refused, moved, bench, gapOf, written, sheetOf, placement, multipliers, forwards, RingOf, RightPlaced, RightRefused, RightMoved, RightCase}
+use Rattle.least_move.proofs.Laws.{least-of-conditions, ring-excludes}
+
+-- ---- tests that come with their proofs
+
+-- a test that computes, and what it shows where it passes
+record Test (P : Type 0) : Type 0 where
+  passes : Bool
+  shows : T passes → P
+
+abbrev granted : {P : Type 0} → P → Test P
+granted p = record { passes = true; shows = λ _. p }
+
+abbrev denied : {P : Type 0} → Test P
+denied = record { passes = false; shows = λ h. absurd h }
+
+-- Two tests that both pass. A chain `granted f on a on b` is the test of what f shows from the parts: the parts' statements come from f's
+-- result, so that a test of a record tests what the record says.
+both-pass : (a b : Bool) → T (a && b) → T a × T b
+both-pass true true h = (tt, tt)
+both-pass true false h = absurd h
+both-pass false b h = absurd h
+
+infixl 30 _on_
+abbrev _on_ : {P Q : Type 0} → Test (P → Q) → Test P → Test Q
+f on a =
+    record {
+      passes = f .passes && a .passes;
+      shows = λ h. f .shows (both-pass (f .passes) (a .passes) h .0) (a .shows (both-pass (f .passes) (a .passes) h .1));
+    }
+
+-- one of two
+one-passes : (a b : Bool) → T (a || b) → T a ⊎ T b
+one-passes true b h = inl tt
+one-passes false b h = inr h
+
+infixr 40 _or_
+abbrev _or_ : {P Q : Type 0} → Test P → Test Q → Test (P ⊎ Q)
+a or b =
+    record {
+      passes = a .passes || b .passes;
+      shows = λ h. ⊎-elim (λ x. inl (a .shows x)) (λ x. inr (b .shows x)) (one-passes (a .passes) (b .passes) h);
+    }
+
+-- the second where the first is not so, and the second where the first is so
+abbrev unless : {P Q : Type 0} → Test P → Test Q → Test (¬ P → Q)
+unless a b = granted (λ h n. ⊎-elim (λ t. absurd (n t)) (λ z. z) h) on (a or b)
+
+abbrev provided : {P Q : Type 0} → Test (¬ P) → Test Q → Test (P → Q)
+provided a b = granted (λ h t. ⊎-elim (λ n. absurd (n t)) (λ z. z) h) on (a or b)
+
+-- at every number below n, so at every label and at every gap
+split-last : (k n : ℕ) → k < suc n → (k ≡ n) ⊎ (k < n)
+split-last k n h = go (decLt k n)
+  where
+    go : Dec (k < n) → (k ≡ n) ⊎ (k < n)
+    go (yes l) = inr l
+    go (no l) = inl (omega arith)
+
+abbrev below : (n : ℕ) {P : ℕ → Type 0} → ((k : ℕ) → Test (P k)) → Test ((k : ℕ) → k < n → P k)
+below zero t = granted (λ k h. absurd (omega arith))
+below (suc n) {P} t = granted (λ last others k h. ⊎-elim (λ e. subst⁻¹ P e last) (λ l. others k l) (split-last k n h)) on t n on below n t
+
+abbrev labels : {n : ℕ} {P : Label → Type 0} → ((i : Label) → Test (P i)) → Test ((i : Label) → i .0 < n → P i)
+labels {n} t = granted (λ h i. h (i .0)) on below n (λ k. t (label k))
+
+abbrev gaps : {n : ℕ} {P : GapNumber → Type 0} → ((e : GapNumber) → Test (P e)) → Test ((e : GapNumber) → e .0 < n → P e)
+gaps {n} t = granted (λ h e. h (e .0)) on below n (λ k. t (gapNumber k))
+
+-- at every entry of a list
+abbrev each : {A : Type 0} {P : A → Type 0} → ((a : A) → Test (P a)) → (l : List A) → Test ((a : A) → List·Memᴰ a l → P a)
+each t [] = granted (λ a m. absurd (List·Memᴰ·not-nil m))
+each {A} {P} t (x ∷ l) = granted (λ first others a m. ⊎-elim (λ e. subst⁻¹ P e first) (λ n. others a n) (List·Memᴰ·cases-cons m)) on t x on each t l
+
+-- ---- of numbers
+
+abbrev equal : (a b : ℕ) → Test (a ≡ b)
+equal a b = record { passes = eqb a b; shows = eqb→eq a b }
+
+abbrev unequal : (a b : ℕ) → Test (a ≢ b)
+unequal a b = record { passes = not (eqb a b); shows = λ h e. T-not (eqb a b) h (subst (λ x. T (eqb a x)) e (eqb-refl a)) }
+
+abbrev less : (a b : ℕ) → Test (a < b)
+less a b = record { passes = ltb a b; shows = ltb→lt a b }
+
+abbrev at-mostℤ : (a b : ℤ) → Test (a ≤ℤ b)
+at-mostℤ a b = record { passes = leZ a b; shows = λ h. record { le = h } }
+
+abbrev lessℤ : (a b : ℤ) → Test (a <ℤ b)
+lessℤ a b = record { passes = ltZ a b; shows = λ h. record { lt = h } }
+
+abbrev equalℤ : (a b : ℤ) → Test (a ≡ b)
+equalℤ a b = granted (λ (h : a ≤ℤ b) (k : b ≤ℤ a). le-antisym h k) on at-mostℤ a b on at-mostℤ b a
+
+abbrev equal-label : (a b : Label) → Test (a ≡ b)
+equal-label a b = granted (ap label) on equal (a .0) (b .0)
+
+abbrev unequal-label : (a b : Label) → Test (a ≢ b)
+unequal-label a b = granted (λ (n : a .0 ≢ b .0) e. n (ap (λ (l : Label). l .0) e)) on unequal (a .0) (b .0)
+
+-- lowest terms: a divisor is at most the denominator, so that it is enough to try the numbers up to it
+abbrev Undivided : Fraction → ℕ → Type 0
+Undivided q k = (k ≡ 1) ⊎ ((natAbs (q .num) % k ≢ 0) ⊎ (natAbs (q .den) % k ≢ 0))
+
+lowest : (q : Fraction) → pos 0 <ℤ q .den → ((k : ℕ) → k < suc (natAbs (q .den)) → Undivided q k) → LowestTerms q
+lowest q above tried =
+    record {
+      above = above;
+      reduced = λ k a b.
+          ⊎-elim (λ e. e)
+          (λ n. absurd (⊎-elim (λ u. u (mod-eq-zero-of-dvd k a)) (λ u. u (mod-eq-zero-of-dvd k b)) n))
+          (tried k (within k b));
+    }
+  where
+    positive : 0 < natAbs (q .den)
+    positive = omega (arith, lt-parts above, parts-natAbs (q .den))
+
+    within : (k : ℕ) → k ∣ natAbs (q .den) → k < suc (natAbs (q .den))
+    within k d = omega (arith, le-of-dvd positive d)
+
+abbrev lowest? : (q : Fraction) → Test (LowestTerms q)
+lowest? q = granted (lowest q) on lessℤ _ _ on below _ (λ k. equal _ _ or unequal _ _ or unequal _ _)
+
+-- ---- of the definitions
+
+abbrev proper? : (s : Sheet) → Test (Proper s)
+proper? s =
+    granted (λ a b c. record { heavy = a; left-in = b; right-in = c })
+    on labels (λ i. lessℤ _ _)
+    on gaps (λ e. less _ _)
+    on gaps (λ e. less _ _)
+
+abbrev asks? : (k : Kind) (a b : Fraction) → Test (Asks k a b)
+asks? at-least a b = at-mostℤ _ _
+asks? exactly a b = equalℤ _ _
+asks? ignored a b = granted tt
+
+abbrev lawful? : (k : Kind) (q : Fraction) → Test (Lawful k q)
+lawful? at-least q = at-mostℤ _ _
+lawful? exactly q = granted tt
+lawful? ignored q = equalℤ _ _
+
+abbrev feasible? : (s : Sheet) (p : Placement) → Test (Feasible s p)
+feasible? s p =
+    granted (λ a b. record { fractions = a; meets = b })
+    on labels (λ i. lessℤ _ _)
+    on gaps (λ e. asks? (s .gap e .kind) (reach p (s .gap e)) (p (s .gap e .right)))
+
+abbrev conditions? : (s : Sheet) (p : Placement) (m : Multipliers) → Test (Conditions s p m)
+conditions? s p m =
+    granted (λ a b c d e f. record { feasible = a; fractions = b; lawful = c; slack = d; balance = e; self = f })
+    on feasible? s p
+    on gaps (λ e. lessℤ _ _)
+    on gaps (λ e. lawful? (s .gap e .kind) (m e))
+    on gaps (λ e. unless (equalℤ _ _) (equalℤ _ _))
+    on labels (λ i. equalℤ _ _)
+    on gaps (λ e. provided (unequal-label _ _) (equalℤ _ _))
+
+abbrev passable? : (k : Kind) (b : Bool) → Test (Passable k b)
+passable? at-least true = denied
+passable? at-least false = granted refl
+passable? exactly b = granted tt
+passable? ignored b = denied
+
+abbrev leads? : (s : Sheet) (a : Label) (l : List Step) (b : Label) → Test (Leads s a l b)
+leads? s a [] b = equal-label a b
+leads? s a (t ∷ l) b = granted (λ x y. (x, y)) on equal-label _ _ on leads? s (finish s t) l b
+
+abbrev steps? : {P : Step → Type 0} → ((t : Step) → Test (P t)) → (l : List Step) → Test (Each P l)
+steps? test [] = granted tt
+steps? test (t ∷ l) = granted (λ x y. (x, y)) on test t on steps? test l
+
+abbrev once? : (s : Sheet) (l : List Step) → Test (OnceLeft s l)
+once? s [] = granted tt
+once? s (t ∷ l) = granted (λ x y. (x, y)) on steps? (λ r. unequal-label (start s r) (start s t)) l on once? s l
+
+abbrev ring? : (s : Sheet) (first : Step) (rest : List Step) → Test (Ring s first rest)
+ring? s first rest =
+    granted (λ a b c d. record { closed = a; passable = b; once = c; above = d })
+    on leads? s (finish s first) rest (start s first)
+    on steps? (λ t. granted (λ x y. (x, y)) on less (t .by .0) (s .gaps) on passable? (s .gap (t .by) .kind) (t .backwards)) (first ∷ rest)
+    on once? s (first ∷ rest)
+    on lessℤ _ _
+
+-- ---- of the cases
+
+abbrev ring-of? : (s : Sheet) (l : List ℕ) → Test (RingOf s l)
+ring-of? s [] = denied
+ring-of? s (e ∷ l) = ring? s (forwards e) (map forwards l)
+
+abbrev gap? : (a b : WrittenGap) → Test (gapOf a ≡ gapOf b)
+gap? a b =
+    granted (λ (x : a .left ≡ b .left) (y : a .right ≡ b .right) (z : a .distance ≡ b .distance) i. gapOf (record { left = x i; right = y i; distance = z i }))
+    on equal _ _
+    on equal _ _
+    on equalℤ _ _
+
+no-placement : (s : Sheet) (l : List ℕ) → Proper s → RingOf s l → (p : Placement) → ¬ (Feasible s p)
+no-placement s [] h r = absurd r
+no-placement s (e ∷ l) h r = ring-excludes s h (forwards e) (map forwards l) r
+
+abbrev placed? : (c : Placed) → Test (RightPlaced c)
+placed? c =
+    granted (λ proper a b c′ d e. record {
+      weighted = a;
+      per-label = b;
+      per-gap = c′;
+      conditions = d;
+      least = least-of-conditions (sheetOf c) (placement c) (multipliers c) proper d;
+      lowest = e;
+    })
+    on proper? (sheetOf c)
+    on equal _ _
+    on equal _ _
+    on equal _ _
+    on conditions? _ _ _
+    on each lowest? _
+
+abbrev refused? : (c : Refused) → Test (RightRefused c)
+refused? c =
+    granted (λ proper a b r. record { weighted = a; number = b; ring = r; none = no-placement (written (c .sheet)) (c .ring) proper r })
+    on proper? (written (c .sheet))
+    on equal _ _
+    on equal _ _
+    on ring-of? (written (c .sheet)) (c .ring)
+
+abbrev moved? : (c : Moved) → Test (RightMoved c)
+moved? c =
+    granted (λ a b c′ d e f g h i. record { before = a; after = b; labels = c′; gaps = d; weight = e; gap = f; one = g; want = h; place = i })
+    on placed? (c .before)
+    on placed? (c .after)
+    on equal _ _
+    on equal _ _
+    on labels (λ i. equalℤ _ _)
+    on gaps (λ e. gap? _ _)
+    on less _ _
+    on labels (λ i. equalℤ _ _)
+    on labels (λ i. equalℤ _ _)
+
+-- the test of a case, and that a case that passes it is right
+abbrev case? : (c : Case) → Test (RightCase c)
+case? (placed c) = placed? c
+case? (refused c) = refused? c
+case? (moved c) = moved? c
+
+-- every case of the list is right, since the whole list passes
+pub bench-right : (c : Case) → List·Memᴰ c bench → RightCase c
+unfolding bench total
+bench-right = each case? bench .shows tt

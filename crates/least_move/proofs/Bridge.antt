@@ -1,0 +1,249 @@
+-- From fractions to whole numbers at a common scale N above zero: what specs/ says of a sheet, its placement and its multipliers is what Scaled says.
+use mathlib.Core.Path.{_≡_, refl, sym, _∙_, ap, ap₂, subst}
+use mathlib.Core.Logic.{inl, inr, ⊎-elim}
+use mathlib.Core.Bool.{Bool, true, false, cond}
+use mathlib.Core.List.{List, [], _∷_}
+use Prim.Native.Nat.{ℕ, _<_}
+use native.Mathlib.Omega.{arith}
+use lib.IntN.{ℤ, pos, _+ℤ_, _-ℤ_, _*ℤ_}
+use lib.Signed.{_≤ℤ_, _<ℤ_}
+use lib.Dec.{eqb}
+use Rattle.exact.specs.declared.Fraction.{Fraction}
+use Rattle.exact.specs.Fraction.{IsFraction, _≃_, _≼_, _⊛_, whole, square}
+use Rattle.exact.specs.Sum.{sum, total}
+use Rattle.exact.proofs.Whole.{le-antisym, le-of-eq, not-le-of-lt, le-or-lt, one-*ℤ}
+use Rattle.exact.proofs.Ring.{ring, quotes, le-given, eq-given, le-goal, eq-goal}
+use Rattle.exact.proofs.Sum.{ind, sum-cong}
+use Rattle.exact.proofs.Fractions.{AtScale, ≼-scale, ≃-scale, ⊕-scale, ⊖-scale, ⊛-scale, whole-scale, square-scale, total-scale, total-above, whole-above, ⊕-above, ⊖-above, square-above}
+use Rattle.least_move.specs.declared.Label.{Label}
+use Rattle.least_move.specs.Sheet.{Sheet, Gap, Kind, at-least, exactly, ignored, Proper, label, gapNumber}
+use Rattle.least_move.specs.Placement.{Placement, Asks, reach, Holds, Tight, Feasible, move, cost}
+use Rattle.least_move.specs.Multipliers.{Multipliers, Lawful, counted, asRight, asLeft, Conditions}
+use Rattle.least_move.specs.Moved.{SameButWants}
+use Rattle.least_move.proofs.Flow.{flow}
+use Rattle.least_move.proofs.Scaled.{slack, Meets-at, Lawful-at, ScaledConditions, costZ}
+
+-- ---- a sheet as plain functions of numbers
+
+abbrev pub lefts : Sheet → ℕ → ℕ
+lefts s e = s .gap (gapNumber e) .left .0
+
+abbrev pub rights : Sheet → ℕ → ℕ
+rights s e = s .gap (gapNumber e) .right .0
+
+abbrev pub weights : Sheet → ℕ → ℤ
+weights s i = s .weight (label i)
+
+abbrev pub kinds : Sheet → ℕ → Kind
+kinds s e = s .gap (gapNumber e) .kind
+
+abbrev pub distances : ℤ → Sheet → ℕ → ℤ
+distances N s e = N *ℤ s .gap (gapNumber e) .distance
+
+abbrev pub wants : ℤ → Sheet → ℕ → ℤ
+wants N s i = N *ℤ s .wanted (label i)
+
+-- the scaled conditions of a sheet, with wants of their own
+abbrev pub Conditions-at : Sheet → ℤ → (ℕ → ℤ) → (ℕ → ℤ) → (ℕ → ℤ) → Type 0
+Conditions-at s N D X Λ = ScaledConditions (s .labels) (s .gaps) (lefts s) (rights s) (weights s) (distances N s) (kinds s) D X Λ
+
+-- every gap is met
+abbrev pub Meets-all : Sheet → ℤ → (ℕ → ℤ) → Type 0
+Meets-all s N X = (e : ℕ) → e < s .gaps → Meets-at (kinds s e) (slack (lefts s) (rights s) (distances N s) X e)
+
+-- a placement's and the multipliers' numbers at the scale
+abbrev pub Places-at : Sheet → ℤ → (ℕ → ℤ) → Placement → Type 0
+Places-at s N X p = (i : ℕ) → i < s .labels → AtScale N (X i) (p (label i))
+
+abbrev pub Multipliers-at : Sheet → ℤ → (ℕ → ℤ) → Multipliers → Type 0
+Multipliers-at s N Λ m = (e : ℕ) → e < s .gaps → AtScale N (Λ e) (m (gapNumber e))
+
+-- ---- cost
+
+-- the cost at the square of the scale
+pub cost-scale : (s : Sheet) (p : Placement) {N : ℤ} {X : ℕ → ℤ} → Places-at s N X p → AtScale (N *ℤ N) (costZ (s .labels) (weights s) (wants N s) X) (cost s p)
+unfolding cost
+cost-scale s p {N} {X} placed =
+    total-scale (s .labels) (λ k. s .weight (label k) ⊛ square (move s p (label k))) (λ i. weights s i *ℤ ((X i -ℤ wants N s i) *ℤ (X i -ℤ wants N s i)))
+    (λ i h. ⊛-scale (s .weight (label i)) (square-scale (⊖-scale (placed i h) (whole-scale N (s .wanted (label i))))))
+
+pub cost-fraction : (s : Sheet) (p : Placement) → ((i : Label) → i .0 < s .labels → IsFraction (p i)) → IsFraction (cost s p)
+unfolding cost
+cost-fraction s p fractions =
+    total-above (s .labels) (λ k. s .weight (label k) ⊛ square (move s p (label k)))
+    (λ i h. square-above (move s p (label i)) (⊖-above (p (label i)) (whole (s .wanted (label i))) (fractions (label i) h) (whole-above (s .wanted (label i)))))
+
+-- ---- slack
+
+le-slack : (x g y : ℤ) → (x +ℤ g) ≤ℤ y → pos 0 ≤ℤ (y -ℤ x -ℤ g)
+le-slack x g y h =
+    let ρ : List ℤ = x ∷ g ∷ y ∷ [] in
+    le-goal ρ (search quotes depth 12) (search quotes depth 12) (omega (arith, le-given ρ (search quotes depth 12) (search quotes depth 12) h))
+
+eq-slack : (x g y : ℤ) → x +ℤ g ≡ y → y -ℤ x -ℤ g ≡ pos 0
+eq-slack x g y h =
+    let ρ : List ℤ = x ∷ g ∷ y ∷ [] in
+    eq-goal ρ (search quotes depth 12) (search quotes depth 12) (omega (arith, eq-given ρ (search quotes depth 12) (search quotes depth 12) h))
+
+slack-eq : (x g y : ℤ) → y -ℤ x -ℤ g ≡ pos 0 → x +ℤ g ≡ y
+slack-eq x g y h =
+    let ρ : List ℤ = x ∷ g ∷ y ∷ [] in
+    eq-goal ρ (search quotes depth 12) (search quotes depth 12) (omega (arith, eq-given ρ (search quotes depth 12) (search quotes depth 12) h))
+
+-- ---- places
+
+module _ (s : Sheet) (proper : Proper s) {N : ℤ} (hN : pos 0 <ℤ N) (p : Placement) (fractions : (i : Label) → i .0 < s .labels → IsFraction (p i)) {X : ℕ → ℤ} (placed : Places-at s N X p) where
+  module _ (e : ℕ) (h : e < s .gaps) where
+    reach-above : IsFraction (reach p (s .gap (gapNumber e)))
+    reach-above =
+        let c : Gap = s .gap (gapNumber e) in
+        ⊕-above (p (c .left)) (whole (c .distance)) (fractions (c .left) (proper .left-in (gapNumber e) h)) (whole-above (c .distance))
+
+    reach-scale : AtScale N (X (lefts s e) +ℤ distances N s e) (reach p (s .gap (gapNumber e)))
+    reach-scale = ⊕-scale (placed (lefts s e) (proper .left-in (gapNumber e) h)) (whole-scale N (s .gap (gapNumber e) .distance))
+
+    right-above : IsFraction (p (s .gap (gapNumber e) .right))
+    right-above = fractions (s .gap (gapNumber e) .right) (proper .right-in (gapNumber e) h)
+
+    right-scale : AtScale N (X (rights s e)) (p (s .gap (gapNumber e) .right))
+    right-scale = placed (rights s e) (proper .right-in (gapNumber e) h)
+
+    -- a gap that is reached has slack, and one that is tight has none
+    reached : reach p (s .gap (gapNumber e)) ≼ p (s .gap (gapNumber e) .right) → pos 0 ≤ℤ slack (lefts s) (rights s) (distances N s) X e
+    reached k = le-slack (X (lefts s e)) (distances N s e) (X (rights s e)) (≼-scale hN reach-above right-above reach-scale right-scale .0 k)
+
+    tight : Tight p (s .gap (gapNumber e)) → slack (lefts s) (rights s) (distances N s) X e ≡ pos 0
+    tight k = eq-slack (X (lefts s e)) (distances N s e) (X (rights s e)) (≃-scale hN reach-above right-above reach-scale right-scale .0 k)
+
+    tight-back : slack (lefts s) (rights s) (distances N s) X e ≡ pos 0 → Tight p (s .gap (gapNumber e))
+    tight-back k = ≃-scale hN reach-above right-above reach-scale right-scale .1 (slack-eq (X (lefts s e)) (distances N s e) (X (rights s e)) k)
+
+    pub meets-at : Holds p (s .gap (gapNumber e)) → Meets-at (kinds s e) (slack (lefts s) (rights s) (distances N s) X e)
+    meets-at = go (kinds s e)
+      where
+        go : (k : Kind) → Asks k (reach p (s .gap (gapNumber e))) (p (s .gap (gapNumber e) .right)) → Meets-at k (slack (lefts s) (rights s) (distances N s) X e)
+        go at-least a = reached a
+        go exactly a = tight a
+        go ignored a = tt
+
+-- a feasible placement meets every gap at the scale
+pub feasible-at : (s : Sheet) → Proper s → {N : ℤ} → pos 0 <ℤ N → (p : Placement) → Feasible s p → {X : ℕ → ℤ} → Places-at s N X p → Meets-all s N X
+feasible-at s proper hN p f placed e h = meets-at s proper hN p (f .fractions) placed e h (f .meets (gapNumber e) h)
+
+-- ---- multipliers
+
+counted-above : (b : Bool) (q : Fraction) → IsFraction q → IsFraction (cond b q (whole (pos 0)))
+counted-above true q h = h
+counted-above false q h = whole-above (pos 0)
+
+counted-scale : {N l : ℤ} (b : Bool) (q : Fraction) → AtScale N l q → AtScale N (ind b *ℤ l) (cond b q (whole (pos 0)))
+counted-scale {l} true q a = rw (one-*ℤ l) a
+counted-scale {N} {l} false q a = record { cross = ring (N ∷ l ∷ []) (search quotes depth 12) (search quotes depth 12) refl }
+
+module _ (s : Sheet) (proper : Proper s) {N : ℤ} (hN : pos 0 <ℤ N) (p : Placement) (m : Multipliers) (c : Conditions s p m) {X Λ : ℕ → ℤ} (placed : Places-at s N X p) (carried : Multipliers-at s N Λ m) where
+  -- one end's sum of multipliers
+  module _ (end : ℕ → Label) (i : Label) where
+    end-scale : AtScale N (sum (s .gaps) (λ e. ind (eqb (end e .0) (i .0)) *ℤ Λ e)) (total (s .gaps) (λ k. counted i (end k) (m (gapNumber k))))
+    end-scale =
+        total-scale (s .gaps) (λ k. counted i (end k) (m (gapNumber k))) (λ e. ind (eqb (end e .0) (i .0)) *ℤ Λ e)
+        (λ e h. counted-scale (eqb (end e .0) (i .0)) (m (gapNumber e)) (carried e h))
+
+    end-above : IsFraction (total (s .gaps) (λ k. counted i (end k) (m (gapNumber k))))
+    end-above =
+        total-above (s .gaps) (λ k. counted i (end k) (m (gapNumber k)))
+        (λ e h. counted-above (eqb (end e .0) (i .0)) (m (gapNumber e)) (c .fractions (gapNumber e) h))
+
+  balance-at : (i : ℕ) → i < s .labels → pos 2 *ℤ (weights s i *ℤ (X i -ℤ wants N s i)) ≡ flow (s .gaps) (lefts s) (rights s) Λ i
+  balance-at i h =
+      ≃-scale hN (⊖-above (p (label i)) (whole (s .wanted (label i))) (c .feasible .fractions (label i) h) (whole-above (s .wanted (label i))))
+      (⊖-above (asRight s m (label i)) (asLeft s m (label i)) (end-above rightEnd (label i)) (end-above leftEnd (label i)))
+      (⊛-scale (pos 2) (⊛-scale (s .weight (label i)) (⊖-scale (placed i h) (whole-scale N (s .wanted (label i))))))
+      (⊖-scale (end-scale rightEnd (label i)) (end-scale leftEnd (label i)))
+      .0 (c .balance (label i) h)
+    where
+      rightEnd : ℕ → Label
+      rightEnd k = s .gap (gapNumber k) .right
+
+      leftEnd : ℕ → Label
+      leftEnd k = s .gap (gapNumber k) .left
+
+  zero-scale : AtScale N (pos 0) (whole (pos 0))
+  zero-scale = record { cross = ring (N ∷ []) (search quotes depth 12) (search quotes depth 12) refl }
+
+  module _ (e : ℕ) (h : e < s .gaps) where
+    none : m (gapNumber e) ≃ whole (pos 0) → Λ e ≡ pos 0
+    none = ≃-scale hN (c .fractions (gapNumber e) h) (whole-above (pos 0)) (carried e h) zero-scale .0
+
+    some : whole (pos 0) ≼ m (gapNumber e) → pos 0 ≤ℤ Λ e
+    some = ≼-scale hN (whole-above (pos 0)) (c .fractions (gapNumber e) h) zero-scale (carried e h) .0
+
+    lawful-at : Lawful-at (kinds s e) (Λ e) (slack (lefts s) (rights s) (distances N s) X e)
+    lawful-at = go (kinds s e) (c .lawful (gapNumber e) h) (c .feasible .meets (gapNumber e) h)
+      where
+        room : ℤ
+        room = slack (lefts s) (rights s) (distances N s) X e
+
+        go : (k : Kind) → Lawful k (m (gapNumber e)) → Asks k (reach p (s .gap (gapNumber e))) (p (s .gap (gapNumber e) .right)) → Lawful-at k (Λ e) room
+        go at-least l a =
+            let meets : pos 0 ≤ℤ room = reached s proper hN p (c .feasible .fractions) placed e h a in
+            record {
+              meets = meets;
+              carries = some l;
+              one = ⊎-elim (λ (k : room ≤ℤ pos 0). inr (le-antisym k meets))
+                  (λ (k : pos 0 <ℤ room).
+                  inl (none (c .slack (gapNumber e) h (λ (t : Tight p (s .gap (gapNumber e))). not-le-of-lt k (le-of-eq (tight s proper hN p (c .feasible .fractions) placed e h t))))))
+                  (le-or-lt room (pos 0));
+            }
+        go exactly l a = tight s proper hN p (c .feasible .fractions) placed e h a
+        go ignored l a = none l
+
+  -- the conditions at the scale
+  pub conditions-at : Conditions-at s N (wants N s) X Λ
+  conditions-at =
+      record {
+        heavy = λ i h. proper .heavy (label i) h;
+        left-in = λ e h. proper .left-in (gapNumber e) h;
+        right-in = λ e h. proper .right-in (gapNumber e) h;
+        lawful = lawful-at;
+        balance = balance-at;
+      }
+
+-- ---- sheets that differ in their wants alone
+
+module _ (s t : Sheet) (same : SameButWants s t) where
+  labels-below : (i : ℕ) → i < s .labels → i < t .labels
+  labels-below i h = omega (arith, same .labels)
+
+  gaps-below : (e : ℕ) → e < s .gaps → e < t .gaps
+  gaps-below e h = omega (arith, same .gaps)
+
+  pub proper-same : Proper s → Proper t
+  proper-same c =
+      record {
+        heavy = λ i h. let k : i .0 < s .labels = omega (arith, same .labels) in rw (same .weight i k) (c .heavy i k);
+        left-in = λ e h. let k : e .0 < s .gaps = omega (arith, same .gaps) in rw (same .gap e k, same .labels) (c .left-in e k);
+        right-in = λ e h. let k : e .0 < s .gaps = omega (arith, same .gaps) in rw (same .gap e k, same .labels) (c .right-in e k);
+      }
+
+  same-flow : (end : Gap → Label) (Λ : ℕ → ℤ) (i : ℕ) → sum (t .gaps) (λ e. ind (eqb (end (t .gap (gapNumber e)) .0) i) *ℤ Λ e) ≡ sum (s .gaps) (λ e. ind (eqb (end (s .gap (gapNumber e)) .0) i) *ℤ Λ e)
+  same-flow end Λ i =
+      ap (λ k. sum k (λ e. ind (eqb (end (t .gap (gapNumber e)) .0) i) *ℤ Λ e)) (same .gaps)
+      ∙ sum-cong (s .gaps) (λ e. ind (eqb (end (t .gap (gapNumber e)) .0) i) *ℤ Λ e) (λ e. ind (eqb (end (s .gap (gapNumber e)) .0) i) *ℤ Λ e)
+      (λ e h. ap (λ g. ind (eqb (end g .0) i) *ℤ Λ e) (same .gap (gapNumber e) h))
+
+  -- the conditions of the one in the other's terms
+  pub same-at : (N : ℤ) {D X Λ : ℕ → ℤ} → Conditions-at t N D X Λ → Conditions-at s N D X Λ
+  same-at N {D} {X} {Λ} c =
+      record {
+        heavy = λ i h. rw (same .weight (label i) h) at (c .heavy i (labels-below i h));
+        left-in = λ e h.
+            rw (same .labels) at (subst (λ (g : Gap). g .left .0 < t .labels) (same .gap (gapNumber e) h) (c .left-in e (gaps-below e h)));
+        right-in = λ e h.
+            rw (same .labels) at (subst (λ (g : Gap). g .right .0 < t .labels) (same .gap (gapNumber e) h) (c .right-in e (gaps-below e h)));
+        lawful = λ e h.
+            subst (λ (g : Gap). Lawful-at (g .kind) (Λ e) (X (g .right .0) -ℤ X (g .left .0) -ℤ N *ℤ g .distance)) (same .gap (gapNumber e) h)
+            (c .lawful e (gaps-below e h));
+        balance = λ i h.
+            ap (λ x. pos 2 *ℤ (x *ℤ (X i -ℤ D i))) (sym (same .weight (label i) h)) ∙ c .balance i (labels-below i h)
+            ∙ ap₂ (λ a b. a -ℤ b) (same-flow (λ g. g .right) Λ i) (same-flow (λ g. g .left) Λ i);
+      }

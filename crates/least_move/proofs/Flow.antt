@@ -1,0 +1,64 @@
+-- Summation by parts over the gaps of a sheet, in plain whole numbers: nearly every law of the least move is this one lemma.
+-- Gap e goes from label u e to label v e and carries Λ e.
+use mathlib.Core.Path.{_≡_, refl, sym, _∙_, ap, ap₂}
+use mathlib.Core.Bool.{Bool, true, false}
+use mathlib.Core.List.{List, [], _∷_}
+use Prim.Native.Nat.{ℕ, _<_}
+use lib.IntN.{ℤ, pos, negℤ, _+ℤ_, _-ℤ_, _*ℤ_}
+use lib.Dec.{eqb}
+use borrow.Author.Tests.{eqb-true, ne-eqb, eq-eqb}
+use Rattle.exact.specs.Sum.{sum}
+use Rattle.exact.proofs.Ring.{ring, quotes}
+use Rattle.exact.proofs.Sum.{ind, sum-cong, sum-+, sum--, sum-*, sum-swap, sum-one-term}
+
+-- what the gaps bring to label i as their right end, less what they take from it as their left
+abbrev pub flow : (m : ℕ) (u v : ℕ → ℕ) (Λ : ℕ → ℤ) → ℕ → ℤ
+flow m u v Λ i = sum m (λ e. ind (eqb (v e) i) *ℤ Λ e) -ℤ sum m (λ e. ind (eqb (u e) i) *ℤ Λ e)
+
+-- a sum over the labels that names one label
+pub at-label : (n : ℕ) (φ : ℕ → ℤ) (k : ℕ) → k < n → (c : ℤ) → sum n (λ i. φ i *ℤ (ind (eqb k i) *ℤ c)) ≡ φ k *ℤ c
+at-label n φ k h c =
+    sum-one-term n (λ i. φ i *ℤ (ind (eqb k i) *ℤ c)) k h
+    (λ i _ ne. ap (λ t. φ i *ℤ (ind t *ℤ c)) (ne-eqb k i (λ e. ne (sym e))) ∙ ring (φ i ∷ c ∷ []) (search quotes depth 12) (search quotes depth 12) refl)
+    ∙ ap (λ t. φ k *ℤ (ind t *ℤ c)) (eq-eqb k k refl) ∙ ring (φ k ∷ c ∷ []) (search quotes depth 12) (search quotes depth 12) refl
+
+-- one end of the gaps
+by-end : (n m : ℕ) (φ : ℕ → ℤ) (v : ℕ → ℕ) (Λ : ℕ → ℤ) → ((e : ℕ) → e < m → v e < n) → sum n (λ i. φ i *ℤ sum m (λ e. ind (eqb (v e) i) *ℤ Λ e)) ≡ sum m (λ e. φ (v e) *ℤ Λ e)
+by-end n m φ v Λ ends =
+    sum-cong n (λ i. φ i *ℤ sum m (λ e. ind (eqb (v e) i) *ℤ Λ e)) (λ i. sum m (λ e. φ i *ℤ (ind (eqb (v e) i) *ℤ Λ e)))
+    (λ i _. sym (sum-* m (φ i) (λ e. ind (eqb (v e) i) *ℤ Λ e)))
+    ∙ sum-swap n m (λ i e. φ i *ℤ (ind (eqb (v e) i) *ℤ Λ e))
+    ∙ sum-cong m (λ e. sum n (λ i. φ i *ℤ (ind (eqb (v e) i) *ℤ Λ e))) (λ e. φ (v e) *ℤ Λ e) (λ e h. at-label n φ (v e) (ends e h) (Λ e))
+
+-- summation by parts
+pub by-parts : (n m : ℕ) (u v : ℕ → ℕ) (Λ φ : ℕ → ℤ) → ((e : ℕ) → e < m → u e < n) → ((e : ℕ) → e < m → v e < n) → sum n (λ i. φ i *ℤ flow m u v Λ i) ≡ sum m (λ e. Λ e *ℤ (φ (v e) -ℤ φ (u e)))
+by-parts n m u v Λ φ lu lv =
+    sum-cong n (λ i. φ i *ℤ flow m u v Λ i) (λ i. φ i *ℤ into i -ℤ φ i *ℤ out i)
+    (λ i _. ring (φ i ∷ into i ∷ out i ∷ []) (search quotes depth 12) (search quotes depth 12) refl)
+    ∙ sum-- n (λ i. φ i *ℤ into i) (λ i. φ i *ℤ out i)
+    ∙ ap₂ (λ a b. a -ℤ b) (by-end n m φ v Λ lv) (by-end n m φ u Λ lu)
+    ∙ sym (sum-- m (λ e. φ (v e) *ℤ Λ e) (λ e. φ (u e) *ℤ Λ e))
+    ∙ sum-cong m (λ e. φ (v e) *ℤ Λ e -ℤ φ (u e) *ℤ Λ e) (λ e. Λ e *ℤ (φ (v e) -ℤ φ (u e)))
+    (λ e _. ring (φ (v e) ∷ φ (u e) ∷ Λ e ∷ []) (search quotes depth 12) (search quotes depth 12) refl)
+  where
+    into : ℕ → ℤ
+    into i = sum m (λ e. ind (eqb (v e) i) *ℤ Λ e)
+
+    out : ℕ → ℤ
+    out i = sum m (λ e. ind (eqb (u e) i) *ℤ Λ e)
+
+-- the flow is linear in what the gaps carry
+pub flow-lin : (m : ℕ) (u v : ℕ → ℕ) (a b : ℤ) (Λ M : ℕ → ℤ) (i : ℕ) → flow m u v (λ e. a *ℤ Λ e +ℤ b *ℤ M e) i ≡ a *ℤ flow m u v Λ i +ℤ b *ℤ flow m u v M i
+flow-lin m u v a b Λ M i =
+    ap₂ (λ x y. x -ℤ y) (side v) (side u)
+    ∙ ring (a ∷ b ∷ one v Λ ∷ one v M ∷ one u Λ ∷ one u M ∷ []) (search quotes depth 12) (search quotes depth 12) refl
+  where
+    one : (ℕ → ℕ) → (ℕ → ℤ) → ℤ
+    one w K = sum m (λ e. ind (eqb (w e) i) *ℤ K e)
+
+    side : (w : ℕ → ℕ) → one w (λ e. a *ℤ Λ e +ℤ b *ℤ M e) ≡ a *ℤ one w Λ +ℤ b *ℤ one w M
+    side w =
+        sum-cong m (λ e. ind (eqb (w e) i) *ℤ (a *ℤ Λ e +ℤ b *ℤ M e)) (λ e. a *ℤ (ind (eqb (w e) i) *ℤ Λ e) +ℤ b *ℤ (ind (eqb (w e) i) *ℤ M e))
+        (λ e _. ring (a ∷ b ∷ ind (eqb (w e) i) ∷ Λ e ∷ M e ∷ []) (search quotes depth 12) (search quotes depth 12) refl)
+        ∙ sum-+ m (λ e. a *ℤ (ind (eqb (w e) i) *ℤ Λ e)) (λ e. b *ℤ (ind (eqb (w e) i) *ℤ M e))
+        ∙ ap₂ (λ x y. x +ℤ y) (sum-* m a (λ e. ind (eqb (w e) i) *ℤ Λ e)) (sum-* m b (λ e. ind (eqb (w e) i) *ℤ M e))

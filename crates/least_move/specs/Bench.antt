@@ -1,0 +1,215 @@
+-- The sheets on the bench (document 01): its cases P1 to P10 in one list, in its order, and what it is for a case to be right.
+use Prim.Native.Nat.{ℕ, _<_}
+use mathlib.Core.Path.{_≡_}
+use mathlib.Core.Bool.{false, cond}
+use mathlib.Core.List.{List, [], _∷_, _++_, map, List·Memᴰ}
+use lib.ListN.{length, getD}
+use lib.Dec.{eqb}
+use lib.IntN.{ℤ, pos, negℤ, _-ℤ_}
+use Rattle.exact.specs.declared.Fraction.{Fraction}
+use Rattle.exact.specs.Fraction.{_≃_, _⊖_, whole, LowestTerms}
+use Rattle.least_move.specs.declared.Label.{Label}
+use Rattle.least_move.specs.declared.GapNumber.{GapNumber}
+use Rattle.least_move.specs.Sheet.{Sheet, Gap, at-least, label, gapNumber}
+use Rattle.least_move.specs.Placement.{Placement, Feasible, LeastMove}
+use Rattle.least_move.specs.Multipliers.{Multipliers, Conditions}
+use Rattle.least_move.specs.Marks.{Step}
+use Rattle.least_move.specs.Ring.{Ring}
+
+-- ---- the data, as the document writes it
+
+-- a number with a minus sign, a fraction, and a gap: "gap 0 to 1 of 10"
+abbrev pub minus : ℕ → ℤ
+minus n = negℤ (pos n)
+
+infix 75 _over_ _to_of_
+abbrev pub _over_ : ℤ → ℕ → Fraction
+n over d = record { num = n; den = pos d }
+
+pub record WrittenGap : Type 0 where
+  pub left : ℕ
+  pub right : ℕ
+  pub distance : ℤ
+
+abbrev pub _to_of_ : ℕ → ℕ → ℤ → WrittenGap
+u to v of g = record { left = u; right = v; distance = g }
+
+-- a sheet: a want and a weight per label, and the gaps
+pub record Written : Type 0 where
+  pub wants : List ℤ
+  pub weights : List ℤ
+  pub gaps : List WrittenGap
+
+-- a sheet with its places and multipliers, and one refused with its number and its ring of gaps
+pub record Placed : Type 0 where
+  pub sheet : Written
+  pub places : List Fraction
+  pub multipliers : List Fraction
+
+pub record Refused : Type 0 where
+  pub sheet : Written
+  pub number : ℕ
+  pub ring : List ℕ
+
+-- two placed sheets: the want of one label moved so far, and every place so far
+pub record Moved : Type 0 where
+  pub before : Placed
+  pub after : Placed
+  pub label : ℕ
+  pub want-by : ℤ
+  pub places-by : Fraction
+
+pub data Case : Type 0 where
+  placed : Placed → Case
+  refused : Refused → Case
+  moved : Moved → Case
+
+-- ---- the list
+
+abbrev pub sheet : List ℤ → List ℤ → List WrittenGap → Written
+sheet wants weights gaps = record { wants = wants; weights = weights; gaps = gaps }
+
+-- P3 and P4 have names, since P4's remark speaks of both.
+abbrev pub P3 : Placed
+P3 =
+    record {
+      sheet = sheet (pos 0 ∷ pos 3 ∷ []) (pos 1 ∷ pos 1 ∷ []) (0 to 1 of pos 6 ∷ []);
+      places = minus 3 over 2 ∷ pos 9 over 2 ∷ [];
+      multipliers = pos 3 over 1 ∷ [];
+    }
+
+-- The document gives no multipliers for P4, P8 and P9. Those here are worked out: 4, 5 and 0, and 0 balance their labels.
+abbrev pub P4 : Placed
+P4 =
+    record {
+      sheet = sheet (pos 1 ∷ pos 3 ∷ []) (pos 1 ∷ pos 1 ∷ []) (0 to 1 of pos 6 ∷ []);
+      places = minus 1 over 1 ∷ pos 5 over 1 ∷ [];
+      multipliers = pos 4 over 1 ∷ [];
+    }
+
+unfoldable pub bench : List Case
+bench =
+    -- P1 wants 0, 0, weights 1, gap 0 to 1 of 10: -5, 5, multiplier 10
+    placed (record {
+      sheet = sheet (pos 0 ∷ pos 0 ∷ []) (pos 1 ∷ pos 1 ∷ []) (0 to 1 of pos 10 ∷ []);
+      places = minus 5 over 1 ∷ pos 5 over 1 ∷ [];
+      multipliers = pos 10 over 1 ∷ [];
+    })
+    -- P2 wants 0, 4, weights 1, 2, gap 10: -4, 6, multiplier 8
+    ∷ placed (record {
+      sheet = sheet (pos 0 ∷ pos 4 ∷ []) (pos 1 ∷ pos 2 ∷ []) (0 to 1 of pos 10 ∷ []);
+      places = minus 4 over 1 ∷ pos 6 over 1 ∷ [];
+      multipliers = pos 8 over 1 ∷ [];
+    })
+    -- P3 wants 0, 3, weights 1, gap 6: -3/2, 9/2, multiplier 3
+    ∷ placed P3
+    -- P4 wants 1, 3, else as P3: -1, 5. One want moved by 1, both places by 1/2
+    ∷ placed P4
+    ∷ moved (record { before = P3; after = P4; label = 0; want-by = pos 1; places-by = pos 1 over 2 })
+    -- P5 wants 0, 100, weights 1, gap 10, carried record marked: 0, 100, multiplier 0. The definitions do not read the carried record
+    ∷ placed (record {
+      sheet = sheet (pos 0 ∷ pos 100 ∷ []) (pos 1 ∷ pos 1 ∷ []) (0 to 1 of pos 10 ∷ []);
+      places = pos 0 over 1 ∷ pos 100 over 1 ∷ [];
+      multipliers = pos 0 over 1 ∷ [];
+    })
+    -- P6 wants 0, 0, 0, weights 1, gaps 0 to 1 of 2, 1 to 2 of 2, 0 to 2 of 10: -5, 0, 5; multipliers 0, 0, 10
+    ∷ placed (record {
+      sheet = sheet (pos 0 ∷ pos 0 ∷ pos 0 ∷ []) (pos 1 ∷ pos 1 ∷ pos 1 ∷ []) (0 to 1 of pos 2 ∷ 1 to 2 of pos 2 ∷ 0 to 2 of pos 10 ∷ []);
+      places = minus 5 over 1 ∷ pos 0 over 1 ∷ pos 5 over 1 ∷ [];
+      multipliers = pos 0 over 1 ∷ pos 0 over 1 ∷ pos 10 over 1 ∷ [];
+    })
+    -- P7 wants 0 and weights 1 from here to P10; gaps 0 to 1 of 5, 1 to 0 of -4: refusal 9, ring of both
+    ∷ refused (record {
+      sheet = sheet (pos 0 ∷ pos 0 ∷ []) (pos 1 ∷ pos 1 ∷ []) (0 to 1 of pos 5 ∷ 1 to 0 of minus 4 ∷ []);
+      number = 9;
+      ring = 0 ∷ 1 ∷ [];
+    })
+    -- P8 the same with -5: -5/2, 5/2
+    ∷ placed (record {
+      sheet = sheet (pos 0 ∷ pos 0 ∷ []) (pos 1 ∷ pos 1 ∷ []) (0 to 1 of pos 5 ∷ 1 to 0 of minus 5 ∷ []);
+      places = minus 5 over 2 ∷ pos 5 over 2 ∷ [];
+      multipliers = pos 5 over 1 ∷ pos 0 over 1 ∷ [];
+    })
+    -- P9 one label, self gap of 0: placed at 0
+    ∷ placed (record {
+      sheet = sheet (pos 0 ∷ []) (pos 1 ∷ []) (0 to 0 of pos 0 ∷ []);
+      places = pos 0 over 1 ∷ [];
+      multipliers = pos 0 over 1 ∷ [];
+    })
+    -- P10 self gap of 1: refusal 9, ring of one
+    ∷ refused (record {
+      sheet = sheet (pos 0 ∷ []) (pos 1 ∷ []) (0 to 0 of pos 1 ∷ []);
+      number = 9;
+      ring = 0 ∷ [];
+    })
+    ∷ []
+
+-- ---- what it is for a case to be right
+
+-- the sheet, the placement and the multipliers that are so written
+abbrev pub gapOf : WrittenGap → Gap
+gapOf g = record { left = label (g .left); right = label (g .right); distance = g .distance; kind = at-least }
+
+abbrev pub written : Written → Sheet
+written w =
+    record {
+      labels = length (w .wants);
+      gaps = length (w .gaps);
+      wanted = λ i. getD (w .wants) (i .0) (pos 0);
+      weight = λ i. getD (w .weights) (i .0) (pos 0);
+      gap = λ e. gapOf (getD (w .gaps) (e .0) (0 to 0 of pos 0));
+    }
+
+abbrev pub sheetOf : Placed → Sheet
+sheetOf c = written (c .sheet)
+
+abbrev pub placement : Placed → Placement
+placement c i = getD (c .places) (i .0) (whole (pos 0))
+
+abbrev pub multipliers : Placed → Multipliers
+multipliers c e = getD (c .multipliers) (e .0) (whole (pos 0))
+
+-- one weight per label
+abbrev pub Weighted : Written → Type 0
+Weighted w = length (w .weights) ≡ length (w .wants)
+
+-- one place per label and one multiplier per gap, which meet the conditions; the placement is the least move, and each fraction is in lowest terms
+pub record RightPlaced (c : Placed) : Type 0 where
+  pub weighted : Weighted (c .sheet)
+  pub per-label : length (c .places) ≡ length (c .sheet .wants)
+  pub per-gap : length (c .multipliers) ≡ length (c .sheet .gaps)
+  pub conditions : Conditions (sheetOf c) (placement c) (multipliers c)
+  pub least : LeastMove (sheetOf c) (placement c)
+  pub lowest : (q : Fraction) → List·Memᴰ q (c .places ++ c .multipliers) → LowestTerms q
+
+-- the gaps, each passed from left to right, are a ring
+abbrev pub forwards : ℕ → Step
+forwards e = record { by = gapNumber e; backwards = false }
+
+abbrev pub RingOf : Sheet → List ℕ → Type 0
+RingOf s [] = ⊥
+RingOf s (e ∷ es) = Ring s (forwards e) (map forwards es)
+
+-- 9 is "no placement meets all gaps", and the ring shows it
+pub record RightRefused (c : Refused) : Type 0 where
+  pub weighted : Weighted (c .sheet)
+  pub number : c .number ≡ 9
+  pub ring : RingOf (written (c .sheet)) (c .ring)
+  pub none : (p : Placement) → ¬ (Feasible (written (c .sheet)) p)
+
+-- two sheets with the same weights and gaps: the want of the one label is moved so far and no other is, and every place is moved so far
+pub record RightMoved (c : Moved) : Type 0 where
+  pub before : RightPlaced (c .before)
+  pub after : RightPlaced (c .after)
+  pub labels : sheetOf (c .after) .labels ≡ sheetOf (c .before) .labels
+  pub gaps : sheetOf (c .after) .gaps ≡ sheetOf (c .before) .gaps
+  pub weight : (i : Label) → i .0 < sheetOf (c .before) .labels → sheetOf (c .after) .weight i ≡ sheetOf (c .before) .weight i
+  pub gap : (e : GapNumber) → e .0 < sheetOf (c .before) .gaps → sheetOf (c .after) .gap e ≡ sheetOf (c .before) .gap e
+  pub one : c .label < sheetOf (c .before) .labels
+  pub want : (i : Label) → i .0 < sheetOf (c .before) .labels → sheetOf (c .after) .wanted i -ℤ sheetOf (c .before) .wanted i ≡ cond (eqb (i .0) (c .label)) (c .want-by) (pos 0)
+  pub place : (i : Label) → i .0 < sheetOf (c .before) .labels → placement (c .after) i ⊖ placement (c .before) i ≃ c .places-by
+
+abbrev pub RightCase : Case → Type 0
+RightCase (placed c) = RightPlaced c
+RightCase (refused c) = RightRefused c
+RightCase (moved c) = RightMoved c

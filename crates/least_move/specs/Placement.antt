@@ -1,0 +1,49 @@
+-- Placements and the least move (document 01, "Least move").
+use Prim.Native.Nat.{ℕ, _<_}
+use lib.IntN.{ℤ, pos}
+use Rattle.exact.specs.declared.Fraction.{Fraction}
+use Rattle.exact.specs.Fraction.{IsFraction, _≃_, _≼_, _⊕_, _⊖_, _⊛_, whole, square}
+use Rattle.exact.specs.Sum.{total}
+use Rattle.least_move.specs.declared.Label.{Label}
+use Rattle.least_move.specs.declared.GapNumber.{GapNumber}
+use Rattle.least_move.specs.Sheet.{Sheet, Gap, Kind, at-least, exactly, ignored, label}
+
+-- "Placement: one fraction per label"
+abbrev pub Placement : Type 0
+Placement = Label → Fraction
+
+-- "asks place(u) + g ≤ place(v)"; an exact gap asks that they are equal, and an ignored one asks nothing
+abbrev pub Asks : Kind → Fraction → Fraction → Type 0
+Asks at-least a b = a ≼ b
+Asks exactly a b = a ≃ b
+Asks ignored a b = Unit {0}
+
+-- where a gap would have its right label stand at the least
+abbrev pub reach : Placement → Gap → Fraction
+reach p c = p (c .left) ⊕ whole (c .distance)
+
+-- The gap holds. (Source document 003's function called violation has the other sign: it returns the slack.)
+abbrev pub Holds : Placement → Gap → Type 0
+Holds p c = Asks (c .kind) (reach p c) (p (c .right))
+
+-- the gap holds with nothing to spare
+abbrev pub Tight : Placement → Gap → Type 0
+Tight p c = reach p c ≃ p (c .right)
+
+-- "It is feasible if it meets every gap"
+pub record Feasible (s : Sheet) (p : Placement) : Type 0 where
+  pub fractions : (i : Label) → i .0 < s .labels → IsFraction (p i)
+  pub meets : (e : GapNumber) → e .0 < s .gaps → Holds p (s .gap e)
+
+-- how far a label moves from its wanted place
+abbrev pub move : Sheet → Placement → Label → Fraction
+move s p i = p i ⊖ whole (s .wanted i)
+
+-- "sum of w × (place - d)²"
+unfoldable pub cost : Sheet → Placement → Fraction
+cost s p = total (s .labels) (λ k. s .weight (label k) ⊛ square (move s p (label k)))
+
+-- "the feasible placement with the least sum", among all placements in fractions
+pub record LeastMove (s : Sheet) (p : Placement) : Type 0 where
+  pub feasible : Feasible s p
+  pub least : (q : Placement) → Feasible s q → cost s p ≼ cost s q
