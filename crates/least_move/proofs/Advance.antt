@@ -95,3 +95,13 @@ rate-lawful {N} {s} {c} {W} {r} {q} {l} {h} P R rate hN hc hP hτ hl least = ⊎
         let A : ℤ = c *ℤ P *ℤ l in
         let B : ℤ = (N *ℤ R -ℤ P *ℤ s) *ℤ h in
         le-by {a = pos 0} {s = A +ℤ B} (both-nonneg (*ℤ-nonneg (*ℤ-nonneg hc hP) hl) (*ℤ-nonneg hτ (change hq))) (ring (A ∷ B ∷ []) (search quotes depth 12) (search quotes depth 12) refl)
+
+-- at its own breaking point a gap carries nothing, and the state has not passed that point before
+pub rate-spent : {N s c W r q l h : ℤ} → Rate N s c W r q l h → c *ℤ q *ℤ l +ℤ (N *ℤ r -ℤ q *ℤ s) *ℤ h ≡ pos 0
+rate-spent {N} {s} {c} {W} {r} {q} {l} {h} rate =
+    *ℤ-cancel (rate .above)
+    (rate-sum N s c W r q l h q r (rate .loaded) (rate .changing) ∙ ring (N ∷ c ∷ W ∷ r ∷ q ∷ []) (search quotes depth 12) (search quotes depth 12) refl)
+
+pub rate-way : {N s c W r q l h : ℤ} → Rate N s c W r q l h → pos 0 ≤ℤ l → pos 0 ≤ℤ (N *ℤ r -ℤ q *ℤ s)
+rate-way {N} {s} {c} {W} {r} {q} {l} {h} rate hl =
+    le-trans (*ℤ-nonneg (le-of-lt (rate .above)) hl) (le-of-eq (rate .loaded ∙ ring (N ∷ s ∷ r ∷ q ∷ []) (search quotes depth 12) (search quotes depth 12) refl))

@@ -1,6 +1,6 @@
 -- From fractions to whole numbers at a common scale N above zero: what specs/ says of a sheet, its placement and its multipliers is what Scaled says.
 use mathlib.Core.Path.{_≡_, refl, sym, _∙_, ap, ap₂, subst}
-use mathlib.Core.Logic.{inl, inr, ⊎-elim}
+use mathlib.Core.Logic.{_↔_, inl, inr, ⊎-elim}
 use mathlib.Core.Bool.{Bool, true, false, cond}
 use mathlib.Core.List.{List, [], _∷_}
 use Prim.Native.Nat.{ℕ, _<_}
@@ -9,13 +9,14 @@ use lib.IntN.{ℤ, pos, _+ℤ_, _-ℤ_, _*ℤ_}
 use lib.Signed.{_≤ℤ_, _<ℤ_}
 use lib.Dec.{eqb}
 use Rattle.exact.specs.declared.Fraction.{Fraction}
-use Rattle.exact.specs.Fraction.{IsFraction, _≃_, _≼_, _⊛_, whole, square}
+use Rattle.exact.specs.Fraction.{IsFraction, _≃_, _≼_, _⊖_, _⊛_, whole, square}
 use Rattle.exact.specs.Sum.{sum, total}
 use Rattle.exact.proofs.Whole.{le-antisym, le-of-eq, not-le-of-lt, le-or-lt, one-*ℤ}
 use Rattle.exact.proofs.Ring.{ring, quotes, le-given, eq-given, le-goal, eq-goal}
 use Rattle.exact.proofs.Sum.{ind, sum-cong}
 use Rattle.exact.proofs.Fractions.{AtScale, ≼-scale, ≃-scale, ⊕-scale, ⊖-scale, ⊛-scale, whole-scale, square-scale, total-scale, total-above, whole-above, ⊕-above, ⊖-above, square-above}
 use Rattle.least_move.specs.declared.Label.{Label}
+use Rattle.least_move.specs.declared.GapNumber.{GapNumber}
 use Rattle.least_move.specs.Sheet.{Sheet, Gap, Kind, at-least, exactly, ignored, Proper, label, gapNumber}
 use Rattle.least_move.specs.Placement.{Placement, Asks, reach, Holds, Tight, Feasible, move, cost}
 use Rattle.least_move.specs.Multipliers.{Multipliers, Lawful, counted, asRight, asLeft, Conditions}
@@ -80,6 +81,11 @@ le-slack x g y h =
     let ρ : List ℤ = x ∷ g ∷ y ∷ [] in
     le-goal ρ (search quotes depth 12) (search quotes depth 12) (omega (arith, le-given ρ (search quotes depth 12) (search quotes depth 12) h))
 
+slack-le : (x g y : ℤ) → pos 0 ≤ℤ (y -ℤ x -ℤ g) → (x +ℤ g) ≤ℤ y
+slack-le x g y h =
+    let ρ : List ℤ = x ∷ g ∷ y ∷ [] in
+    le-goal ρ (search quotes depth 12) (search quotes depth 12) (omega (arith, le-given ρ (search quotes depth 12) (search quotes depth 12) h))
+
 eq-slack : (x g y : ℤ) → x +ℤ g ≡ y → y -ℤ x -ℤ g ≡ pos 0
 eq-slack x g y h =
     let ρ : List ℤ = x ∷ g ∷ y ∷ [] in
@@ -112,10 +118,13 @@ module _ (s : Sheet) (proper : Proper s) {N : ℤ} (hN : pos 0 <ℤ N) (p : Plac
     reached : reach p (s .gap (gapNumber e)) ≼ p (s .gap (gapNumber e) .right) → pos 0 ≤ℤ slack (lefts s) (rights s) (distances N s) X e
     reached k = le-slack (X (lefts s e)) (distances N s e) (X (rights s e)) (≼-scale hN reach-above right-above reach-scale right-scale .0 k)
 
-    tight : Tight p (s .gap (gapNumber e)) → slack (lefts s) (rights s) (distances N s) X e ≡ pos 0
+    reached-back : pos 0 ≤ℤ slack (lefts s) (rights s) (distances N s) X e → reach p (s .gap (gapNumber e)) ≼ p (s .gap (gapNumber e) .right)
+    reached-back k = ≼-scale hN reach-above right-above reach-scale right-scale .1 (slack-le (X (lefts s e)) (distances N s e) (X (rights s e)) k)
+
+    pub tight : Tight p (s .gap (gapNumber e)) → slack (lefts s) (rights s) (distances N s) X e ≡ pos 0
     tight k = eq-slack (X (lefts s e)) (distances N s e) (X (rights s e)) (≃-scale hN reach-above right-above reach-scale right-scale .0 k)
 
-    tight-back : slack (lefts s) (rights s) (distances N s) X e ≡ pos 0 → Tight p (s .gap (gapNumber e))
+    pub tight-back : slack (lefts s) (rights s) (distances N s) X e ≡ pos 0 → Tight p (s .gap (gapNumber e))
     tight-back k = ≃-scale hN reach-above right-above reach-scale right-scale .1 (slack-eq (X (lefts s e)) (distances N s e) (X (rights s e)) k)
 
     pub meets-at : Holds p (s .gap (gapNumber e)) → Meets-at (kinds s e) (slack (lefts s) (rights s) (distances N s) X e)
@@ -124,6 +133,14 @@ module _ (s : Sheet) (proper : Proper s) {N : ℤ} (hN : pos 0 <ℤ N) (p : Plac
         go : (k : Kind) → Asks k (reach p (s .gap (gapNumber e))) (p (s .gap (gapNumber e) .right)) → Meets-at k (slack (lefts s) (rights s) (distances N s) X e)
         go at-least a = reached a
         go exactly a = tight a
+        go ignored a = tt
+
+    pub meets-back : Meets-at (kinds s e) (slack (lefts s) (rights s) (distances N s) X e) → Holds p (s .gap (gapNumber e))
+    meets-back = go (kinds s e)
+      where
+        go : (k : Kind) → Meets-at k (slack (lefts s) (rights s) (distances N s) X e) → Asks k (reach p (s .gap (gapNumber e))) (p (s .gap (gapNumber e) .right))
+        go at-least a = reached-back a
+        go exactly a = tight-back a
         go ignored a = tt
 
 -- a feasible placement meets every gap at the scale
@@ -140,7 +157,7 @@ counted-scale : {N l : ℤ} (b : Bool) (q : Fraction) → AtScale N l q → AtSc
 counted-scale {l} true q a = rw (one-*ℤ l) a
 counted-scale {N} {l} false q a = record { cross = ring (N ∷ l ∷ []) (search quotes depth 12) (search quotes depth 12) refl }
 
-module _ (s : Sheet) (proper : Proper s) {N : ℤ} (hN : pos 0 <ℤ N) (p : Placement) (m : Multipliers) (c : Conditions s p m) {X Λ : ℕ → ℤ} (placed : Places-at s N X p) (carried : Multipliers-at s N Λ m) where
+module _ (s : Sheet) {N : ℤ} (hN : pos 0 <ℤ N) (p : Placement) (m : Multipliers) (pf : (i : Label) → i .0 < s .labels → IsFraction (p i)) (mf : (e : GapNumber) → e .0 < s .gaps → IsFraction (m e)) {X Λ : ℕ → ℤ} (placed : Places-at s N X p) (carried : Multipliers-at s N Λ m) where
   -- one end's sum of multipliers
   module _ (end : ℕ → Label) (i : Label) where
     end-scale : AtScale N (sum (s .gaps) (λ e. ind (eqb (end e .0) (i .0)) *ℤ Λ e)) (total (s .gaps) (λ k. counted i (end k) (m (gapNumber k))))
@@ -151,15 +168,15 @@ module _ (s : Sheet) (proper : Proper s) {N : ℤ} (hN : pos 0 <ℤ N) (p : Plac
     end-above : IsFraction (total (s .gaps) (λ k. counted i (end k) (m (gapNumber k))))
     end-above =
         total-above (s .gaps) (λ k. counted i (end k) (m (gapNumber k)))
-        (λ e h. counted-above (eqb (end e .0) (i .0)) (m (gapNumber e)) (c .fractions (gapNumber e) h))
+        (λ e h. counted-above (eqb (end e .0) (i .0)) (m (gapNumber e)) (mf (gapNumber e) h))
 
-  balance-at : (i : ℕ) → i < s .labels → pos 2 *ℤ (weights s i *ℤ (X i -ℤ wants N s i)) ≡ flow (s .gaps) (lefts s) (rights s) Λ i
-  balance-at i h =
-      ≃-scale hN (⊖-above (p (label i)) (whole (s .wanted (label i))) (c .feasible .fractions (label i) h) (whole-above (s .wanted (label i))))
+  -- a label's balance is that of its numbers
+  pub balance-scale : (i : ℕ) → i < s .labels → (pos 2 ⊛ (s .weight (label i) ⊛ move s p (label i)) ≃ (asRight s m (label i) ⊖ asLeft s m (label i))) ↔ (pos 2 *ℤ (weights s i *ℤ (X i -ℤ wants N s i)) ≡ flow (s .gaps) (lefts s) (rights s) Λ i)
+  balance-scale i h =
+      ≃-scale hN (⊖-above (p (label i)) (whole (s .wanted (label i))) (pf (label i) h) (whole-above (s .wanted (label i))))
       (⊖-above (asRight s m (label i)) (asLeft s m (label i)) (end-above rightEnd (label i)) (end-above leftEnd (label i)))
       (⊛-scale (pos 2) (⊛-scale (s .weight (label i)) (⊖-scale (placed i h) (whole-scale N (s .wanted (label i))))))
       (⊖-scale (end-scale rightEnd (label i)) (end-scale leftEnd (label i)))
-      .0 (c .balance (label i) h)
     where
       rightEnd : ℕ → Label
       rightEnd k = s .gap (gapNumber k) .right
@@ -170,12 +187,23 @@ module _ (s : Sheet) (proper : Proper s) {N : ℤ} (hN : pos 0 <ℤ N) (p : Plac
   zero-scale : AtScale N (pos 0) (whole (pos 0))
   zero-scale = record { cross = ring (N ∷ []) (search quotes depth 12) (search quotes depth 12) refl }
 
+  -- and so are a multiplier of zero, and one not below it
+  pub none-scale : (e : ℕ) → e < s .gaps → (m (gapNumber e) ≃ whole (pos 0)) ↔ (Λ e ≡ pos 0)
+  none-scale e h = ≃-scale hN (mf (gapNumber e) h) (whole-above (pos 0)) (carried e h) zero-scale
+
+  pub some-scale : (e : ℕ) → e < s .gaps → (whole (pos 0) ≼ m (gapNumber e)) ↔ (pos 0 ≤ℤ Λ e)
+  some-scale e h = ≼-scale hN (whole-above (pos 0)) (mf (gapNumber e) h) zero-scale (carried e h)
+
+module _ (s : Sheet) (proper : Proper s) {N : ℤ} (hN : pos 0 <ℤ N) (p : Placement) (m : Multipliers) (c : Conditions s p m) {X Λ : ℕ → ℤ} (placed : Places-at s N X p) (carried : Multipliers-at s N Λ m) where
+  balance-at : (i : ℕ) → i < s .labels → pos 2 *ℤ (weights s i *ℤ (X i -ℤ wants N s i)) ≡ flow (s .gaps) (lefts s) (rights s) Λ i
+  balance-at i h = balance-scale s hN p m (c .feasible .fractions) (c .fractions) placed carried i h .0 (c .balance (label i) h)
+
   module _ (e : ℕ) (h : e < s .gaps) where
     none : m (gapNumber e) ≃ whole (pos 0) → Λ e ≡ pos 0
-    none = ≃-scale hN (c .fractions (gapNumber e) h) (whole-above (pos 0)) (carried e h) zero-scale .0
+    none = none-scale s hN p m (c .feasible .fractions) (c .fractions) placed carried e h .0
 
     some : whole (pos 0) ≼ m (gapNumber e) → pos 0 ≤ℤ Λ e
-    some = ≼-scale hN (whole-above (pos 0)) (c .fractions (gapNumber e) h) zero-scale (carried e h) .0
+    some = some-scale s hN p m (c .feasible .fractions) (c .fractions) placed carried e h .0
 
     lawful-at : Lawful-at (kinds s e) (Λ e) (slack (lefts s) (rights s) (distances N s) X e)
     lawful-at = go (kinds s e) (c .lawful (gapNumber e) h) (c .feasible .meets (gapNumber e) h)

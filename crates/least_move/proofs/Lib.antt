@@ -6,3 +6,7 @@ pub mod Bench
 pub mod Forest
 pub mod Progress
 pub mod Advance
+pub mod Blocks
+pub mod Sides
+pub mod Unscaled
+pub mod Ending

@@ -88,7 +88,7 @@ gap-nonneg {x} {y} h =
     let ρ : List ℤ = x ∷ y ∷ [] in
     le-goal ρ (search quotes depth 12) (search quotes depth 12) (omega (arith, le-given ρ (search quotes depth 12) (search quotes depth 12) h))
 
-gap-above : {x y : ℤ} → x <ℤ y → pos 0 <ℤ (y -ℤ x)
+pub gap-above : {x y : ℤ} → x <ℤ y → pos 0 <ℤ (y -ℤ x)
 gap-above {x} {y} h =
     let ρ : List ℤ = x ∷ y ∷ [] in
     lt-goal ρ (search quotes depth 12) (search quotes depth 12) (omega (arith, lt-given ρ (search quotes depth 12) (search quotes depth 12) h))
@@ -186,7 +186,7 @@ module _ {n m : ℕ} {u v : ℕ → ℕ} {w D G : ℕ → ℤ} {F : ℕ → Bool
 
 -- ---- the size of the cost
 
-natAbs-* : (x y : ℤ) → natAbs (x *ℤ y) ≡ natAbs x * natAbs y
+pub natAbs-* : (x y : ℤ) → natAbs (x *ℤ y) ≡ natAbs x * natAbs y
 natAbs-* (pos x) (pos y) = refl
 natAbs-* (pos x) (negsuc y) = omega (arith, parts-natAbs (pos x *ℤ negsuc y), pp-* (pos x) (negsuc y), nn-* (pos x) (negsuc y))
 natAbs-* (negsuc x) (pos y) = omega (arith, parts-natAbs (negsuc x *ℤ pos y), pp-* (negsuc x) (pos y), nn-* (negsuc x) (pos y))

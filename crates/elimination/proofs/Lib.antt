@@ -1,0 +1,4 @@
+pub mod Loops
+pub mod Ranges
+pub mod Eliminated
+pub mod TreeFlow

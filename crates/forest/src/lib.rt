@@ -1,0 +1,2 @@
+// The forest of marked gaps, searched from a root.
+pub mod search;
