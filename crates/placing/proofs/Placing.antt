@@ -1,0 +1,240 @@
+-- The places of a block's labels: its sums give a fraction for each, and wherever the marked gaps are tight and balance all alone the label
+-- stands there. Then the loop that places all labels.
+use mathlib.Core.Path.{_≡_, refl, sym, _∙_, ap}
+use mathlib.Core.Logic.{_⊎_, inl, inr, ⊎-elim, _≢_}
+use mathlib.Core.Bool.{true, false, true≢false}
+use mathlib.Core.List.{List, [], _∷_}
+use Prim.Native.Nat.{ℕ, zero, suc, _+_, _*_, _≤_, _<_}
+use native.Mathlib.Omega.{arith}
+use native.Mathlib.Nat.{mul-le-mul}
+use lib.IntN.{ℤ, pos, natAbs, _+ℤ_, _-ℤ_, _*ℤ_}
+use lib.Signed.{_≤ℤ_}
+use lib.Dec.{eqb}
+use lib.ListN.{set}
+use lib.Seq.{getD-set-other}
+use borrow.Author.Tests.{eqb-true, eqb-false, ltb-true, lt-ltb}
+use Rattle.exact.specs.Sum.{sum}
+use Rattle.exact.proofs.Ring.{ring, quotes, eq-given, eq-goal}
+use Rattle.exact.proofs.Whole.{parts-+, parts-natAbs, le-parts, parts-le, no-nn}
+use Rattle.exact.proofs.Sum.{ind, sum-none, sum-last, sum-cong, sum-+, sum-*, sum-nonneg, sum-bound}
+use Rattle.least_move.proofs.Flow.{flow}
+use Rattle.least_move.proofs.Forest.{by-mark, block-still}
+use Rattle.least_move.proofs.Sides.{StateAt}
+use Rattle.forest.specs.Tree.{nat, int, InLimits, Tree}
+use Rattle.elimination.specs.declared.Sums.{Sums}
+use Rattle.elimination.specs.Block.{Listed, InRange, SumsInRange, weightSum, wantedSum, Given, numerator}
+use Rattle.elimination.proofs.Ranges.{plus-most, times-most, sums-in-range}
+use Rattle.elimination.proofs.TreeFlow.{isSeen, tree-listed, seen-placed, seen-found, mean-at}
+use Rattle.step.specs.Problem.{Problem, Limits, graphOf, marksOf, numbersOf}
+use Rattle.placing.specs.Places.{LabelPlaced, BlockPlaced, PlacesFound}
+
+-- ---- the problem's limits
+
+pub limits-graph : {p : Problem} (mark : List ℕ) → Limits p → InLimits (graphOf p mark)
+limits-graph mark l =
+    record { labels-most = l .labels-most; gaps-most = l .gaps-most; left-in = l .left-in; right-in = l .right-in; distance-most = l .distance-most }
+
+-- ---- kinds do not matter
+
+abbrev pub withKind : Problem → List ℕ → Problem
+withKind p kinds = record {
+  labels = p .labels;
+  gaps = p .gaps;
+  left = p .left;
+  right = p .right;
+  distance = p .distance;
+  kind = kinds;
+  wanted = p .wanted;
+  weight = p .weight;
+}
+
+pub limits-kind : {p : Problem} (kinds : List ℕ) → Limits p → Limits (withKind p kinds)
+limits-kind kinds l = record {
+  labels-most = l .labels-most;
+  gaps-most = l .gaps-most;
+  left-in = l .left-in;
+  right-in = l .right-in;
+  distance-most = l .distance-most;
+  wanted-most = l .wanted-most;
+  weight-least = l .weight-least;
+  weight-most = l .weight-most;
+}
+
+pub places-kind : (p : Problem) (kinds mark : List ℕ) (num den : List ℤ) → PlacesFound (withKind p kinds) mark num den → PlacesFound p mark num den
+places-kind p kinds mark num den f j l =
+    let q : LabelPlaced (withKind p kinds) mark j (int num j) (int den j) = f j l in
+    record { den-least = q .den-least; den-most = q .den-most; num-most = q .num-most; placed = q .placed }
+
+-- ---- plain numbers and sums
+
+natAbs-plus : {a b : ℤ} → pos 0 ≤ℤ a → pos 0 ≤ℤ b → natAbs (a +ℤ b) ≡ natAbs a + natAbs b
+natAbs-plus {a} {b} h k =
+    omega (arith, no-nn h, no-nn k, parts-+ a b, parts-natAbs a, parts-natAbs b, parts-natAbs (a +ℤ b), no-nn {c = a +ℤ b} (parts-le (omega (arith, le-parts h, le-parts k, parts-+ a b))))
+
+-- a weighted sum of numbers of magnitude at most B
+weighted-most : (n : ℕ) (w d : ℕ → ℤ) (B : ℕ) → ((k : ℕ) → k < n → pos 0 ≤ℤ w k) → ((k : ℕ) → k < n → natAbs (d k) ≤ B) → natAbs (sum n (λ k. w k *ℤ d k)) ≤ B * natAbs (sum n w)
+weighted-most zero w d B hw hd = rw (sum-none (λ k. w k *ℤ d k)) (omega arith)
+weighted-most (suc n) w d B hw hd =
+    rw (sum-last n (λ k. w k *ℤ d k), sum-last n w, natAbs-plus (sum-nonneg n w (λ k l. hw k (omega arith))) (hw n (omega arith)))
+    (omega (
+      arith,
+      plus-most (sum n (λ k. w k *ℤ d k)) (w n *ℤ d n) (weighted-most n w d B (λ k l. hw k (omega arith)) (λ k l. hd k (omega arith))) (times-most (w n) (d n) {m = natAbs (w n)} {n = B} (omega arith) (hd n (omega arith))),
+    ))
+
+-- P and an offset times W, in one sum
+moved-sum : (n : ℕ) (w d o : ℕ → ℤ) (c : ℤ) → sum n (λ k. w k *ℤ (d k -ℤ o k)) +ℤ c *ℤ sum n w ≡ sum n (λ k. w k *ℤ (d k +ℤ (c -ℤ o k)))
+moved-sum n w d o c =
+    ap (λ z. sum n (λ k. w k *ℤ (d k -ℤ o k)) +ℤ z) (sym (sum-* n c w))
+    ∙ sym (sum-+ n (λ k. w k *ℤ (d k -ℤ o k)) (λ k. c *ℤ w k))
+    ∙ sum-cong n (λ k. w k *ℤ (d k -ℤ o k) +ℤ c *ℤ w k) (λ k. w k *ℤ (d k +ℤ (c -ℤ o k)))
+    (λ k _. ring (w k ∷ d k ∷ o k ∷ c ∷ []) (search quotes depth 12) (search quotes depth 12) refl)
+
+halved : (W x N z : ℤ) → pos 2 *ℤ (W *ℤ x) ≡ pos 2 *ℤ (N *ℤ z) +ℤ pos 0 → x *ℤ W ≡ N *ℤ z
+halved W x N z e =
+    let ρ : List ℤ = W ∷ x ∷ N ∷ z ∷ [] in
+    eq-goal ρ (search quotes depth 12) (search quotes depth 12) (omega (arith, eq-given ρ (search quotes depth 12) (search quotes depth 12) e))
+
+-- ---- a block
+
+module _ {p : Problem} {mark : List ℕ} {root count : ℕ} {at queue via up : List ℕ} {off : List ℤ} (lim : Limits p) (t : Tree (graphOf p mark) root count at queue via up off) where
+  spread-most : (j k : ℕ) → j < count → k < count → natAbs (int off (nat queue j) -ℤ int off (nat queue k)) ≤ 940000
+  spread-most j k lj lk =
+      omega (
+        arith,
+        t .spread (nat queue j) (nat queue k) (t .placed j lj .0) (t .placed k lk .0) (omega (arith, t .placed j lj .1)) (omega (arith, t .placed k lk .1)),
+        t .within,
+        lim .labels-most,
+      )
+
+  off-most : (k : ℕ) → k < count → natAbs (int off (nat queue k)) ≤ 940000
+  off-most k l =
+      let origin : int off (nat queue 0) ≡ pos 0 = ap (int off) (t .first) ∙ t .origin in
+      let o : ℤ = int off (nat queue k) in
+      let whole : o -ℤ pos 0 ≡ o = ring (o ∷ []) (search quotes depth 12) (search quotes depth 12) refl in
+      omega (arith, spread-most k 0 l (t .some), ap natAbs (ap (λ z. o -ℤ z) origin ∙ whole))
+
+  pub block-listed : Listed count queue
+  block-listed = tree-listed (limits-graph mark lim) t
+
+  pub block-range : InRange count queue off (p .wanted) (p .weight)
+  block-range = record {
+    weight-least = λ k l. lim .weight-least (nat queue k) (t .placed k l .0);
+    weight-most = λ k l. lim .weight-most (nat queue k) (t .placed k l .0);
+    wanted-most = λ k l. lim .wanted-most (nat queue k) (t .placed k l .0);
+    off-most = off-most;
+  }
+
+  gaps-inside : (e : ℕ) → e < p .gaps → marksOf mark e ≡ true → isSeen at (nat (p .left) e) ≡ isSeen at (nat (p .right) e)
+  gaps-inside e l m =
+      let both = t .closed e l (eqb-true (nat mark e) 1 m) in
+      by-mark (isSeen at (nat (p .left) e))
+      (λ s. s ∙ sym (lt-ltb 0 (nat at (nat (p .right) e)) (both .0 (ltb-true 0 (nat at (nat (p .left) e)) s))))
+      (λ s. s ∙ sym (by-mark (isSeen at (nat (p .right) e))
+      (λ r. absurd (true≢false (sym (lt-ltb 0 (nat at (nat (p .left) e)) (both .1 (ltb-true 0 (nat at (nat (p .right) e)) r))) ∙ s)))
+      (λ r. r)))
+
+  -- the block's balance sums to zero: no marked gap leads out of it, and nothing pushes
+  block-balance : (N : ℤ) (X Λ : ℕ → ℤ) → StateAt (numbersOf p) (marksOf mark) 0 0 N (pos 0) X Λ → sum (p .labels) (λ i. ind (isSeen at i) *ℤ (pos 2 *ℤ (int (p .weight) i *ℤ (X i -ℤ N *ℤ int (p .wanted) i)))) ≡ pos 0
+  block-balance N X Λ st =
+      sum-cong (p .labels) (λ i. ind (isSeen at i) *ℤ (pos 2 *ℤ (int (p .weight) i *ℤ (X i -ℤ N *ℤ int (p .wanted) i)))) (λ i. ind (isSeen at i) *ℤ flow (p .gaps) (nat (p .left)) (nat (p .right)) Λ i)
+      (λ i l. ap (λ z. ind (isSeen at i) *ℤ z) (st .balance i l ∙ unpushed (flow (p .gaps) (nat (p .left)) (nat (p .right)) Λ i) (ind (eqb 0 i))))
+      ∙ block-still (marksOf mark) Λ (isSeen at) (lim .left-in) (lim .right-in) (st .off) gaps-inside
+    where
+      unpushed : (f b : ℤ) → f +ℤ pos 0 *ℤ (b -ℤ b) ≡ f
+      unpushed f b = ring (f ∷ b ∷ []) (search quotes depth 12) (search quotes depth 12) refl
+
+  module _ (s : Sums) (hw : s .weight ≡ weightSum count queue (p .weight)) (hp : s .wanted ≡ wantedSum count queue off (p .wanted) (p .weight)) where
+    pub block-sums : SumsInRange s
+    block-sums = sums-in-range block-range s block-listed (t .some) hw hp
+
+    num-most : (k : ℕ) → k < count → (B : ℕ) → ((i : ℕ) → i < p .labels → natAbs (int (p .wanted) i) ≤ B) → natAbs (numerator s off (nat queue k)) ≤ (B + 940000) * natAbs (s .weight)
+    num-most k l B h =
+        let o : ℤ = int off (nat queue k) in
+        rw (hp, hw, moved-sum count (λ j. int (p .weight) (nat queue j)) (λ j. int (p .wanted) (nat queue j)) (λ j. int off (nat queue j)) o)
+        (weighted-most count (λ j. int (p .weight) (nat queue j)) (λ j. int (p .wanted) (nat queue j) +ℤ (o -ℤ int off (nat queue j))) (B + 940000)
+        (λ j lj. parts-le (omega (arith, le-parts (block-range .weight-least j lj))))
+        (λ j lj. plus-most (int (p .wanted) (nat queue j)) (o -ℤ int off (nat queue j)) (h (nat queue j) (t .placed j lj .0)) (spread-most k j l lj)))
+
+    -- each of the block's labels stands at its numerator over W
+    pub label-placed : (k : ℕ) → k < count → LabelPlaced p mark (nat queue k) (numerator s off (nat queue k)) (s .weight)
+    label-placed k l = record {
+      den-least = block-sums .weight-least;
+      den-most = λ B h. rw hw (omega (arith, mul-le-mul {n₁ = count} {m₁ = B} {n₂ = 48} {m₂ = B} (block-listed .count-most) (omega arith), sum-bound count (λ j. int (p .weight) (nat queue j)) B (λ j lj. h (nat queue j) (t .placed j lj .0))));
+      num-most = num-most k l;
+      placed = λ N X Λ _ st. halved (s .weight) (X (nat queue k)) N (numerator s off (nat queue k))
+          (rw (hp, hw) (mean-at (limits-graph mark lim) t X N (st .tight) (int (p .weight)) (int (p .wanted)) (pos 0) (block-balance N X Λ st) k l));
+    }
+
+    -- what the pass over the block leaves
+    pub block-placed : {num₀ den₀ num den : List ℤ} → Given count queue (numerator s off) num₀ num → Given count queue (λ x. s .weight) den₀ den → BlockPlaced p mark root num₀ den₀ num den
+    block-placed {num₀} {den₀} {num} {den} gn gd = record {
+      root-placed = rw (t .first) at (at-position 0 (t .some));
+      placed-or-kept = λ j l. by-mark (isSeen at j)
+          (λ b. inl (seen j (seen-found (limits-graph mark lim) t j l b)))
+          (λ b. inr (gn .outside j (unseen j b), gd .outside j (unseen j b)));
+    }
+      where
+        at-position : (k : ℕ) → k < count → LabelPlaced p mark (nat queue k) (int num (nat queue k)) (int den (nat queue k))
+        at-position k l = rw (gn .inside k l, gd .inside k l) (label-placed k l)
+
+        seen : (j : ℕ) → (k : ℕ) × (k < count) × (nat queue k ≡ j) → LabelPlaced p mark j (int num j) (int den j)
+        seen j q = rw (q .2) at (at-position (q .0) (q .1))
+
+        unseen : (j : ℕ) → isSeen at j ≡ false → (k : ℕ) → k < count → nat queue k ≢ j
+        unseen j b k l e = true≢false (sym (seen-placed (limits-graph mark lim) t k l) ∙ ap (isSeen at) e ∙ b)
+
+-- ---- the loop over all labels
+
+-- an entry set to zero, and the entries before it
+zeroed : (l : List ℤ) (i : ℕ) → int (set l i (pos 0)) i ≡ pos 0
+zeroed [] i = refl
+zeroed (a ∷ l) zero = refl
+zeroed (a ∷ l) (suc i) = zeroed l i
+
+pub cleared : (l : List ℤ) (i : ℕ) → ((x : ℕ) → x < i → int l x ≡ pos 0) → (x : ℕ) → x < i + 1 → int (set l i (pos 0)) x ≡ pos 0
+cleared l i h x k =
+    by-mark (eqb x i)
+    (λ e. ap (int (set l i (pos 0))) (eqb-true x i e) ∙ zeroed l i)
+    (λ e. getD-set-other l i x (pos 0) (pos 0) (eqb-false x i e) ∙ h x (below (eqb-false x i e)))
+  where
+    below : x ≢ i → x < i
+    below d = omega arith
+
+-- the labels before label i are placed, and so is every label whose denominator is not zero
+pub record PlacedBefore (p : Problem) (mark : List ℕ) (i : ℕ) (num den : List ℤ) : Type 0 where
+  pub passed : (j : ℕ) → j < i → j < p .labels → LabelPlaced p mark j (int num j) (int den j)
+  pub other : (j : ℕ) → j < p .labels → LabelPlaced p mark j (int num j) (int den j) ⊎ (int den j ≡ pos 0)
+
+pub before-none : {p : Problem} {mark : List ℕ} {num den : List ℤ} → p .labels ≤ 48 → ((x : ℕ) → x < 48 → int den x ≡ pos 0) → PlacedBefore p mark 0 num den
+before-none l z = record { passed = λ j h _. absurd (omega arith); other = λ j h. inr (z j (omega arith)) }
+
+passed-more : {p : Problem} {mark : List ℕ} {i : ℕ} (num den : List ℤ) → ((j : ℕ) → j < i → j < p .labels → LabelPlaced p mark j (int num j) (int den j)) → LabelPlaced p mark i (int num i) (int den i) → (j : ℕ) → j < i + 1 → j < p .labels → LabelPlaced p mark j (int num j) (int den j)
+passed-more {p} {mark} {i} num den f q j h l =
+    by-mark (eqb j i)
+    (λ e. rw (eqb-true j i e) q)
+    (λ e. f j (below (eqb-false j i e)) l)
+  where
+    below : j ≢ i → j < i
+    below d = omega arith
+
+-- a label with a denominator is passed over
+pub before-skip : {p : Problem} {mark : List ℕ} {i : ℕ} {num den : List ℤ} → i < p .labels → int den i ≢ pos 0 → PlacedBefore p mark i num den → PlacedBefore p mark (i + 1) num den
+before-skip {p} {mark} {i} {num} {den} l d b = record {
+  passed = passed-more num den (b .passed) (⊎-elim (λ q. q) (λ (z : int den i ≡ pos 0). absurd (d z)) (b .other i l));
+  other = b .other;
+}
+
+-- the block of a label is placed; the labels placed before stay so, or are placed again
+pub before-block : {p : Problem} {mark : List ℕ} {i : ℕ} {num₀ den₀ num den : List ℤ} → PlacedBefore p mark i num₀ den₀ → BlockPlaced p mark i num₀ den₀ num den → PlacedBefore p mark (i + 1) num den
+before-block {p} {mark} {i} {num₀} {den₀} {num} {den} b q = record {
+  passed = passed-more num den (λ j h l. ⊎-elim (λ r. r) (λ (k : (int num j ≡ int num₀ j) × (int den j ≡ int den₀ j)). rw (k .0, k .1) (b .passed j h l)) (q .placed-or-kept j l)) (q .root-placed);
+  other = λ j l. ⊎-elim inl
+      (λ (k : (int num j ≡ int num₀ j) × (int den j ≡ int den₀ j)). ⊎-elim
+      (λ (r : LabelPlaced p mark j (int num₀ j) (int den₀ j)). inl (rw (k .0, k .1) r))
+      (λ (z : int den₀ j ≡ pos 0). inr (k .1 ∙ z))
+      (b .other j l))
+      (q .placed-or-kept j l);
+}
+
+pub before-all : {p : Problem} {mark : List ℕ} {i : ℕ} {num den : List ℤ} → p .labels ≤ i → PlacedBefore p mark i num den → PlacesFound p mark num den
+before-all h b j l = b .passed j (omega arith) l

@@ -1,0 +1,153 @@
+// The search for a gap that does not hold: the one that lacks most, by whole units.
+use least_move::GapNumber;
+ghost use mathlib.Core.Path.{_≡_};
+ghost use mathlib.Core.Logic.{_⊎_, _≢_};
+ghost use Prim.Native.Nat.{_+_, _≤_};
+ghost use lib.IntN.{pos, natAbs, _+ℤ_, _-ℤ_, _*ℤ_};
+ghost use lib.Signed.{_<ℤ_, quotZ};
+ghost use mir.Syntax.{w64};
+ghost use mir.Val.{SFits};
+ghost use Rattle.violation.specs.declared.Worst.the-variants.{Nothing, Gap};
+ghost use Rattle.violation.specs.Violation.{Comparable, PlaceInRange, WorstOf, reachOf, standsAt};
+
+// The gap that holds least, and whether it is pushed backwards; or none, where every gap holds.
+pub enum Worst {
+    Nothing,
+    Gap(GapNumber, bool),
+}
+
+// The worst gap so far, and how many whole units it lacks.
+struct Lead {
+    gap: Worst,
+    whole: i64,
+}
+
+// The gap that lacks more whole units: the lead, or gap e.
+fn better(lead: Lead, e: GapNumber, back: bool, whole: i64) -> Lead
+    ensures { λ r. ⌜ (r .gap ≡ Gap e back) ⊎ ((r .gap ≡ lead .gap) × (lead .gap ≢ Nothing)) ⌝ }
+{
+    let gap = lead.gap;
+    match gap {
+        Worst::Nothing => Lead {
+            gap: Worst::Gap(e, back),
+            whole,
+        },
+        Worst::Gap(_, _) => {
+            if lead.whole < whole {
+                Lead {
+                    gap: Worst::Gap(e, back),
+                    whole,
+                }
+            } else {
+                lead
+            }
+        }
+    }
+}
+
+// A product that fits.
+fn times(a: i64, b: i64) -> i64
+    requires { ⌜ SFits w64 (a *ℤ b) ⌝ }
+    ensures { λ r. ⌜ r ≡ a *ℤ b ⌝ }
+{
+    a * b
+}
+
+// A number with its sign turned.
+fn negated(a: i64) -> i64
+    requires { ⌜ SFits w64 (pos 0 -ℤ a) ⌝ }
+    ensures { λ r. ⌜ r ≡ pos 0 -ℤ a ⌝ }
+{
+    0 - a
+}
+
+// How far a span from the start reaches past what stands.
+fn short_of(start: i64, span: i64, stands: i64) -> i64
+    requires { ⌜ SFits w64 (start +ℤ span) ⌝ }
+    requires { ⌜ SFits w64 ((start +ℤ span) -ℤ stands) ⌝ }
+    ensures { λ r. ⌜ r ≡ (start +ℤ span) -ℤ stands ⌝ }
+{
+    start + span - stands
+}
+
+// The whole units of a fraction.
+fn whole_part(num: i64, den: i64) -> i64
+    requires { ⌜ pos 0 <ℤ den ⌝ }
+    ensures { λ r. ⌜ r ≡ quotZ num den ⌝ }
+{
+    num / den
+}
+
+// How much place b lacks to stand h to the right of place a, over the product of the denominators.
+fn lack_of(a: usize, b: usize, h: i64, num: &[i64; 48], den: &[i64; 48]) -> i64
+    requires { ⌜ PlaceInRange (now num) (now den) a ⌝ }
+    requires { ⌜ PlaceInRange (now num) (now den) b ⌝ }
+    requires { ⌜ natAbs h ≤ 20000 ⌝ }
+    ensures { λ r. ⌜ r ≡ reachOf (now (num .entry)) (now (den .entry)) a b h -ℤ standsAt (now (num .entry)) (now (den .entry)) a b ⌝ }
+{
+    let start = times(num[a], den[b]);
+    let span = times(h, times(den[a], den[b]));
+    let stands = times(num[b], den[a]);
+    short_of(start, span, stands)
+}
+
+// Takes gap e into account.
+fn consider(
+    e: GapNumber,
+    lead: Lead,
+    left: &[usize; 192],
+    right: &[usize; 192],
+    distance: &[i64; 192],
+    kind: &[u8; 192],
+    num: &[i64; 48],
+    den: &[i64; 48],
+) -> Lead
+    requires { ⌜ Comparable (e .0 + 1) (now left) (now right) (now distance) (now num) (now den) ⌝ }
+    requires { ⌜ WorstOf (now left) (now right) (now distance) (now kind) (now num) (now den) (e .0) (lead .gap) ⌝ }
+    ensures { λ r. ⌜ WorstOf (now (left .entry)) (now (right .entry)) (now (distance .entry)) (now (kind .entry)) (now (num .entry)) (now (den .entry)) (e .0 + 1) (r .gap) ⌝ }
+{
+    let k = e.0;
+    let what = kind[k];
+    if 1 < what {
+        return lead;
+    }
+    let u = left[k];
+    let v = right[k];
+    let both = times(den[u], den[v]);
+    let lack = lack_of(u, v, distance[k], num, den);
+    if 0 < lack {
+        return better(lead, e, false, whole_part(lack, both));
+    }
+    if what == 0 {
+        return lead;
+    }
+    if lack < 0 {
+        return better(lead, e, true, whole_part(negated(lack), both));
+    }
+    lead
+}
+
+// The gap that holds least.
+pub fn worst_gap(
+    gaps: usize,
+    left: &[usize; 192],
+    right: &[usize; 192],
+    distance: &[i64; 192],
+    kind: &[u8; 192],
+    num: &[i64; 48],
+    den: &[i64; 48],
+) -> Worst
+    requires { ⌜ Comparable gaps (now left) (now right) (now distance) (now num) (now den) ⌝ }
+    ensures { λ r. ⌜ WorstOf (now (left .entry)) (now (right .entry)) (now (distance .entry)) (now (kind .entry)) (now (num .entry)) (now (den .entry)) gaps r ⌝ }
+{
+    let mut lead = Lead {
+        gap: Worst::Nothing,
+        whole: 0,
+    };
+    let mut k: usize = 0;
+    while k < gaps {
+        lead = consider(GapNumber(k), lead, left, right, distance, kind, num, den);
+        k += 1;
+    }
+    lead.gap
+}
