@@ -1,1 +1,3 @@
 pub mod Finish
+pub mod Agreeing
+pub mod Passes

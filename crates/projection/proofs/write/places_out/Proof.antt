@@ -1,0 +1,104 @@
+-- `projection::write::places_out` meets its contract. The loop's invariant: the first k fractions are written in lowest terms and the other entries stay
+-- (`FractionsWritten`). The measure is the entries left. Assumes nothing.
+use Prim.Native.Nat.{_≤_, _-_}
+use native.Mathlib.Omega.{arith}
+use mathlib.Core.Path.{_≡_}
+use borrow.Author.Needs.{needs}
+use mir.Syntax.{w64}
+use mir.Val.{toZ, ofZ}
+use Rattle.exact.specs.Fraction.{Reduced}
+use Rattle.forest.specs.Tree.{int}
+use Rattle.projection.specs.Core.{fraction}
+use Rattle.projection.specs.Project.{FractionsWritten}
+use Rattle.projection.proofs.Passes.{above-zero, reduced-start, reduced-turn, reduced-end}
+use Rattle.projection.proofs.write.places_out.Statement.{statement}
+use Rattle.projection.proofs.write.places_out.Tie as tie
+
+abbrev Inv-loop : tie.InvT-loop
+Inv-loop count num den upper₀ lower₀ k₀ upper lower k = (k ≤ count) × FractionsWritten k num den upper₀ lower₀ upper lower
+
+abbrev μ-loop : tie.MeasureT-loop
+μ-loop count num den upper₀ lower₀ k₀ upper lower k = count - k
+
+loop-holds : tie.Need-loop-holds Inv-loop μ-loop
+loop-holds c = (omega arith, reduced-start _ _ _ _)
+
+mul-lowest : tie.Need-mul-lowest Inv-loop μ-loop
+mul-lowest c = omega arith
+
+element-copy-out-lowest : tie.Need-element-copy-out-lowest Inv-loop μ-loop
+element-copy-out-lowest c = omega arith
+
+mul-lowest-2 : tie.Need-mul-lowest-2 Inv-loop μ-loop
+mul-lowest-2 c = omega arith
+
+element-copy-out-lowest-2 : tie.Need-element-copy-out-lowest-2 Inv-loop μ-loop
+element-copy-out-lowest-2 c = omega arith
+
+lowest-requires : tie.Need-lowest-requires Inv-loop μ-loop
+lowest-requires c κs =
+    let d = int (c .before .before .before .before .args .den .now) (c .before .before .before .loop .k) in
+    let e : toZ w64 (ofZ w64 d) ≡ d = search needs in
+    rw e (above-zero (c .before .before .before .before .pre .3 (c .before .before .before .loop .k) (c .before .before .loop-test .taken)))
+
+mul-top : tie.Need-mul-top Inv-loop μ-loop
+mul-top c = omega arith
+
+slice-set-from-top : tie.Need-slice-set-from-top Inv-loop μ-loop
+slice-set-from-top c = omega arith
+
+mul-bottom : tie.Need-mul-bottom Inv-loop μ-loop
+mul-bottom c = omega arith
+
+slice-set-from-bottom : tie.Need-slice-set-from-bottom Inv-loop μ-loop
+slice-set-from-bottom c = omega arith
+
+add-k : tie.Need-add-k Inv-loop μ-loop
+add-k c = omega arith
+
+loop-less : tie.Need-loop-less Inv-loop μ-loop
+loop-less c = omega arith
+
+loop-again : tie.Need-loop-again Inv-loop μ-loop
+loop-again c =
+    let s = c .before .before .before .before .before .before .before in
+    let w = c .before .before .before .before .before .before .loop in
+    let q = c .before .before .lowest .result in
+    let num : toZ w64 (ofZ w64 (int (s .args .num .now) (w .k))) ≡ int (s .args .num .now) (w .k) = search needs in
+    let den : toZ w64 (ofZ w64 (int (s .args .den .now) (w .k))) ≡ int (s .args .den .now) (w .k) = search needs in
+    let top : toZ w64 (ofZ w64 (q .num)) ≡ q .num = search needs in
+    let bottom : toZ w64 (ofZ w64 (q .den)) ≡ q .den = search needs in
+    let r : Reduced (fraction (s .args .num .now) (s .args .den .now) (w .k)) q = rw (num, den) at (c .before .before .lowest .ensures) in
+    (omega arith, rw (top, bottom) (reduced-turn q (w .inv .1) (omega arith) (omega arith) r))
+
+same-length : tie.Need-same-length Inv-loop μ-loop
+same-length c = c .before .loop .inv .1 .uppers .size
+
+same-length-2 : tie.Need-same-length-2 Inv-loop μ-loop
+same-length-2 c = c .before .loop .inv .1 .lowers .size
+
+returns : tie.Need-returns Inv-loop μ-loop
+returns c = reduced-end (c .before .loop .inv .1) (c .before .loop .inv .0) (c .loop-test .left)
+
+pub places-out-spec : {M : Type 1} → statement M
+places-out-spec =
+    tie.close
+    (tie.spec
+    Inv-loop
+    μ-loop
+    loop-holds
+    mul-lowest
+    element-copy-out-lowest
+    mul-lowest-2
+    element-copy-out-lowest-2
+    lowest-requires
+    mul-top
+    slice-set-from-top
+    mul-bottom
+    slice-set-from-bottom
+    add-k
+    loop-less
+    loop-again
+    same-length
+    same-length-2
+    returns)

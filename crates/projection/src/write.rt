@@ -1,0 +1,88 @@
+// Results written to the front of lent lists.
+use exact::divide::lowest;
+ghost use Prim.Native.Nat.{ℕ, _<_, _≤_};
+ghost use lib.ListN.{length};
+ghost use lib.IntN.{pos};
+ghost use lib.Signed.{_≤ℤ_};
+ghost use Rattle.forest.specs.Tree.{int};
+ghost use Rattle.projection.specs.Project.{FractionsWritten, FrontWritten};
+
+// Writes the places in lowest terms.
+pub fn places_out(
+    count: usize,
+    num: &[i64; 48],
+    den: &[i64; 48],
+    upper: &mut [i64],
+    lower: &mut [i64],
+)
+    requires { ⌜ (count ≤ 48) × (count ≤ length (now upper)) × (count ≤ length (now lower)) × ((k : ℕ) → k < count → pos 1 ≤ℤ int (now den) k) ⌝ }
+    ensures { λ _. ⌜ FractionsWritten count (now (num .entry)) (now (den .entry)) (now (upper .entry)) (now (lower .entry)) (now (upper .exit)) (now (lower .exit)) ⌝ }
+{
+    let mut k: usize = 0;
+    while k < count {
+        let q = lowest(num[k], den[k]);
+        let top = q.num;
+        let bottom = q.den;
+        upper[k] = top;
+        lower[k] = bottom;
+        k += 1;
+    }
+}
+
+// Writes the multipliers in lowest terms.
+pub fn multipliers_out(
+    count: usize,
+    num: &[i64; 192],
+    den: &[i64; 192],
+    upper: &mut [i64],
+    lower: &mut [i64],
+)
+    requires { ⌜ (count ≤ 192) × (count ≤ length (now upper)) × (count ≤ length (now lower)) × ((k : ℕ) → k < count → pos 1 ≤ℤ int (now den) k) ⌝ }
+    ensures { λ _. ⌜ FractionsWritten count (now (num .entry)) (now (den .entry)) (now (upper .entry)) (now (lower .entry)) (now (upper .exit)) (now (lower .exit)) ⌝ }
+{
+    let mut k: usize = 0;
+    while k < count {
+        let q = lowest(num[k], den[k]);
+        let top = q.num;
+        let bottom = q.den;
+        upper[k] = top;
+        lower[k] = bottom;
+        k += 1;
+    }
+}
+
+// Writes the marks.
+pub fn marks_out(count: usize, from: &[u8; 192], to: &mut [u8])
+    requires { ⌜ (count ≤ 192) × (count ≤ length (now to)) ⌝ }
+    ensures { λ _. ⌜ FrontWritten count (now (from .entry)) (now (to .entry)) (now (to .exit)) 0 ⌝ }
+{
+    let mut k: usize = 0;
+    while k < count {
+        to[k] = from[k];
+        k += 1;
+    }
+}
+
+// Writes a ring's gap numbers.
+pub fn ring_out(count: usize, from: &[usize; 48], to: &mut [usize])
+    requires { ⌜ (count ≤ 48) × (count ≤ length (now to)) ⌝ }
+    ensures { λ _. ⌜ FrontWritten count (now (from .entry)) (now (to .entry)) (now (to .exit)) 0 ⌝ }
+{
+    let mut k: usize = 0;
+    while k < count {
+        to[k] = from[k];
+        k += 1;
+    }
+}
+
+// Writes which of a ring's gaps are passed backwards.
+pub fn backs_out(count: usize, from: &[u8; 48], to: &mut [u8])
+    requires { ⌜ (count ≤ 48) × (count ≤ length (now to)) ⌝ }
+    ensures { λ _. ⌜ FrontWritten count (now (from .entry)) (now (to .entry)) (now (to .exit)) 0 ⌝ }
+{
+    let mut k: usize = 0;
+    while k < count {
+        to[k] = from[k];
+        k += 1;
+    }
+}
