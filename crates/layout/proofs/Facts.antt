@@ -96,7 +96,7 @@ above-of-weight (pos (suc n)) e = parts-lt (omega arith)
 above-of-weight (negsuc n) e = absurd (let z : _≡_ {A = ℕ} 0 1 = cc in omega arith)
 
 -- ends that are no strangers are labels of the sheet
-ends-in : (u v n : ℕ) → (not (ltb u n) || not (ltb v n)) ≡ false → (u < n) × (v < n)
+pub ends-in : (u v n : ℕ) → (not (ltb u n) || not (ltb v n)) ≡ false → (u < n) × (v < n)
 ends-in u v n e =
     let clear : (not (ltb u n) ≡ false) × (not (ltb v n) ≡ false) = or-clear (not (ltb u n)) (not (ltb v n)) e in
     (ltb-true u n (not-false (ltb u n) (clear .0)), ltb-true v n (not-false (ltb v n) (clear .1)))

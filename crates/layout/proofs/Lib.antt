@@ -1,3 +1,5 @@
 pub mod Facts
 pub mod Demand3
 pub mod WrongParts
+pub mod CheckLaws
+pub mod Judging

@@ -2,3 +2,4 @@ pub mod Lent
 pub mod Refusals
 pub mod Promise
 pub mod Demand3
+pub mod Checks

@@ -1,6 +1,9 @@
 // Lays out a sheet: what a station lends, what is refused, and what is answered.
 use exact::Refusal;
 
+pub mod check;
+pub mod lists;
+
 // A gap as a station lends it in a list of records.
 pub struct GapRecord {
     pub left: usize,
@@ -12,4 +15,10 @@ pub struct GapRecord {
 pub enum Answer {
     Placed,
     Refused(Refusal),
+}
+
+// What the checks 1 to 8 find: nothing, or a refusal's number and place.
+pub enum Checked {
+    Pass,
+    Refuse(usize, usize),
 }
