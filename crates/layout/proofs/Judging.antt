@@ -49,6 +49,10 @@ weight-within (pos n) e =
     (parts-le (omega arith), parts-le (omega arith))
 weight-within (negsuc n) e = absurd (let z : _≡_ {A = ℕ} 0 1 = cc in omega arith)
 
+weight-hundred : (z : ℤ) → outside (pos 1) (pos 100) z ≡ false → natAbs z ≤ 100
+weight-hundred (pos n) e = ltb-false 100 n (or-clear (ltb n 1) (ltb 100 n) e .1)
+weight-hundred (negsuc n) e = absurd (let z : _≡_ {A = ℕ} 0 1 = cc in omega arith)
+
 same-of-not : (a b : ℕ) → unequal a b ≡ false → a ≡ b
 same-of-not a b e = eqb-true a b (not-false (eqb a b) e)
 
@@ -160,6 +164,8 @@ module _ (wanted weight : List ℤ) (left right : List ℕ) (distance : List ℤ
         bytes = λ e h. s .bytes (e .0) h;
         places-lowest = s .places-lowest;
         multipliers-lowest = s .multipliers-lowest;
+        den-most = λ i h. s .den-most (i .0) h 100 (λ j l. weight-hundred (int weight j) (passed .weighed j l));
+        near = λ i h. s .num-most (i .0) h 200000 (λ j l. within 199999 (int wanted j) (passed .on-plate j l));
       }
     where
       conditions : Conditions (sheetOf sheet) (placeOf (writtenOf after)) (multiplierOf (writtenOf after))

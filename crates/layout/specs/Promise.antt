@@ -1,11 +1,12 @@
 -- What a layout call owes: its number, its place and every lent entry afterwards (document 01, "What a station lends", "Refusal table", "What is owed by each public entry").
-use Prim.Native.Nat.{ℕ, suc, _≤_, _<_}
+use Prim.Native.Nat.{ℕ, suc, _*_, _≤_, _<_}
 use mathlib.Core.Path.{_≡_}
 use mathlib.Core.Logic.{_⊎_}
 use mathlib.Core.Bool.{Bool, true, false}
 use mathlib.Core.List.{List, [], _∷_, map}
 use lib.Dec.{eqb}
 use lib.ListN.{length, getD, take, drop}
+use lib.IntN.{natAbs}
 use Rattle.exact.specs.Fraction.{LowestTerms}
 use Rattle.exact.specs.declared.Refusal.{Refusal}
 use Rattle.layout.specs.declared.Answer.{Answer}
@@ -63,6 +64,9 @@ pub record Accepted (r : Read) (w after : Written) : Type 0 where
   pub bytes : (e : GapNumber) → e .0 < gapCount r → byteAt after e ≤ 1
   pub places-lowest : (i : Label) → i .0 < labelCount r → LowestTerms (placeOf after i)
   pub multipliers-lowest : (e : GapNumber) → e .0 < gapCount r → LowestTerms (multiplierOf after e)
+  -- "Every place is over a denominator of at most 4,800 and lies within 1,140,000 of zero"
+  pub den-most : (i : Label) → i .0 < labelCount r → natAbs (placeOf after i .den) ≤ 4800
+  pub near : (i : Label) → i .0 < labelCount r → natAbs (placeOf after i .num) ≤ 1140000 * natAbs (placeOf after i .den)
 
 -- a gap number as a step that is passed forwards, as every gap of document 01 is
 abbrev pub forwards : ℕ → Step
