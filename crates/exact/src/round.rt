@@ -38,7 +38,7 @@ impl Rounded {
 }
 
 // The nearest whole number to num/den, halves away from zero.
-pub fn nearest(num: i64, den: i64) -> i64
+pub(crate) fn nearest(num: i64, den: i64) -> i64
     requires { ⌜ InRange (record { num = num; den = den }) ⌝ }
     ensures { λ r. ⌜ r ≡ roundTiesToAway num den ⌝ }
 {

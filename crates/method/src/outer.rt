@@ -52,7 +52,7 @@ fn push_of(
 }
 
 // Takes one outer step, if a gap does not hold.
-pub fn turn(
+pub(crate) fn turn(
     labels: usize,
     gaps: usize,
     left: &[usize; 192],

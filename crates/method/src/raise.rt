@@ -20,7 +20,7 @@ fn whole(a: &[u8; 192])
 }
 
 // Drops the gaps that give way, and marks gap c when it is tight. Says whether it came to that; if not, nothing gives way.
-pub fn raise(
+pub(crate) fn raise(
     labels: usize,
     gaps: usize,
     c: GapNumber,

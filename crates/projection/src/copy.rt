@@ -9,7 +9,7 @@ ghost use lib.IntN.{pos};
 ghost use Rattle.projection.specs.Project.{Copied};
 
 // Copies a number for each label to the front of a work array.
-pub fn labels_in(from: &[i64], to: &mut [i64; 48])
+pub(crate) fn labels_in(from: &[i64], to: &mut [i64; 48])
     requires { ⌜ length (now from) ≤ 48 ⌝ }
     ensures { λ _. ⌜ Copied (length (now (from .entry))) (now (from .entry)) (now (to .exit)) (pos 0) ⌝ }
 {
@@ -22,7 +22,7 @@ pub fn labels_in(from: &[i64], to: &mut [i64; 48])
 }
 
 // Copies a label for each gap to the front of a work array.
-pub fn ends_in(from: &[usize], to: &mut [usize; 192])
+pub(crate) fn ends_in(from: &[usize], to: &mut [usize; 192])
     requires { ⌜ length (now from) ≤ 192 ⌝ }
     ensures { λ _. ⌜ Copied (length (now (from .entry))) (now (from .entry)) (now (to .exit)) (0) ⌝ }
 {
@@ -35,7 +35,7 @@ pub fn ends_in(from: &[usize], to: &mut [usize; 192])
 }
 
 // Copies a distance for each gap to the front of a work array.
-pub fn distances_in(from: &[i64], to: &mut [i64; 192])
+pub(crate) fn distances_in(from: &[i64], to: &mut [i64; 192])
     requires { ⌜ length (now from) ≤ 192 ⌝ }
     ensures { λ _. ⌜ Copied (length (now (from .entry))) (now (from .entry)) (now (to .exit)) (pos 0) ⌝ }
 {
@@ -48,7 +48,7 @@ pub fn distances_in(from: &[i64], to: &mut [i64; 192])
 }
 
 // Copies a byte for each gap to the front of a work array.
-pub fn bytes_in(from: &[u8], to: &mut [u8; 192])
+pub(crate) fn bytes_in(from: &[u8], to: &mut [u8; 192])
     requires { ⌜ length (now from) ≤ 192 ⌝ }
     ensures { λ _. ⌜ Copied (length (now (from .entry))) (now (from .entry)) (now (to .exit)) (0) ⌝ }
 {

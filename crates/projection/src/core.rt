@@ -7,7 +7,7 @@ ghost use Rattle.projection.specs.Core.{CoreSays};
 
 // Lays the labels out. Gives 0 where every gap holds: label i stands at num[i] over den[i], gap e has the multiplier load[e] over over[e] and
 // is marked where mark[e] is 1. Otherwise a ring of so many gaps stands in the front of ring, with 1 in back for a gap passed backwards.
-pub fn solve(
+pub(crate) fn solve(
     labels: usize,
     gaps: usize,
     left: &[usize; 192],

@@ -8,7 +8,7 @@ ghost use Rattle.forest.specs.Tree.{int};
 ghost use Rattle.projection.specs.Project.{FractionsWritten, FrontWritten};
 
 // Writes the places in lowest terms.
-pub fn places_out(
+pub(crate) fn places_out(
     count: usize,
     num: &[i64; 48],
     den: &[i64; 48],
@@ -30,7 +30,7 @@ pub fn places_out(
 }
 
 // Writes the multipliers in lowest terms.
-pub fn multipliers_out(
+pub(crate) fn multipliers_out(
     count: usize,
     num: &[i64; 192],
     den: &[i64; 192],
@@ -52,7 +52,7 @@ pub fn multipliers_out(
 }
 
 // Writes the marks.
-pub fn marks_out(count: usize, from: &[u8; 192], to: &mut [u8])
+pub(crate) fn marks_out(count: usize, from: &[u8; 192], to: &mut [u8])
     requires { ⌜ (count ≤ 192) × (count ≤ length (now to)) ⌝ }
     ensures { λ _. ⌜ FrontWritten count (now (from .entry)) (now (to .entry)) (now (to .exit)) 0 ⌝ }
 {
@@ -64,7 +64,7 @@ pub fn marks_out(count: usize, from: &[u8; 192], to: &mut [u8])
 }
 
 // Writes a ring's gap numbers.
-pub fn ring_out(count: usize, from: &[usize; 48], to: &mut [usize])
+pub(crate) fn ring_out(count: usize, from: &[usize; 48], to: &mut [usize])
     requires { ⌜ (count ≤ 48) × (count ≤ length (now to)) ⌝ }
     ensures { λ _. ⌜ FrontWritten count (now (from .entry)) (now (to .entry)) (now (to .exit)) 0 ⌝ }
 {
@@ -76,7 +76,7 @@ pub fn ring_out(count: usize, from: &[usize; 48], to: &mut [usize])
 }
 
 // Writes which of a ring's gaps are passed backwards.
-pub fn backs_out(count: usize, from: &[u8; 48], to: &mut [u8])
+pub(crate) fn backs_out(count: usize, from: &[u8; 48], to: &mut [u8])
     requires { ⌜ (count ≤ 48) × (count ≤ length (now to)) ⌝ }
     ensures { λ _. ⌜ FrontWritten count (now (from .entry)) (now (to .entry)) (now (to .exit)) 0 ⌝ }
 {

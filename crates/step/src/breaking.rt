@@ -11,7 +11,7 @@ ghost use lib.IntN.{pos, negsuc};
 ghost use Rattle.step.specs.Breaking.{BreakInRange, Breakable, nearerOf, losingEnd, candidateOf, leastBreak};
 
 // The nearer of two breaking points; the first where they are equal.
-pub fn nearer(a: Break, b: Break) -> Break
+pub(crate) fn nearer(a: Break, b: Break) -> Break
     requires { ⌜ BreakInRange a × BreakInRange b ⌝ }
     ensures { λ r. ⌜ r ≡ nearerOf a b ⌝ }
 {
@@ -74,7 +74,7 @@ fn candidate(
 }
 
 // The first breaking point of the block.
-pub fn least_break(
+pub(crate) fn least_break(
     count: usize,
     sign: i64,
     queue: &[usize; 48],

@@ -24,7 +24,7 @@ fn meeting(h: i64, one: Sums, two: Sums) -> i64
 }
 
 // Between two blocks: the first breaking point gives way if it comes before the gap is tight.
-pub fn decide(h: i64, one: Side, two: Side) -> Outcome
+pub(crate) fn decide(h: i64, one: Side, two: Side) -> Outcome
     requires { ⌜ (natAbs h ≤ 20000) × SumsInRange (one .sums) × SumsInRange (two .sums) × BreakInRange (one .first) × BreakInRange (two .first) ⌝ }
     ensures { λ r. ⌜ r ≡ decided h one two ⌝ }
 {
@@ -50,7 +50,7 @@ pub fn decide(h: i64, one: Side, two: Side) -> Outcome
 }
 
 // Within one block: the first breaking point gives way; where there is none, nothing does.
-pub fn within(first: Break) -> Outcome
+pub(crate) fn within(first: Break) -> Outcome
     ensures { λ r. ⌜ r ≡ withinBlock first ⌝ }
 {
     match first {

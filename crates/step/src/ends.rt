@@ -41,7 +41,7 @@ fn shared(
 }
 
 // Searches the block of the root, and eliminates what its labels lack of their balance, times the sign, and their shares of the push.
-pub fn side(
+pub(crate) fn side(
     labels: usize,
     gaps: usize,
     root: Label,
