@@ -3,3 +3,4 @@ pub mod Refusals
 pub mod Promise
 pub mod Demand3
 pub mod Checks
+pub mod Part

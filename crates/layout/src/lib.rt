@@ -3,6 +3,7 @@ use exact::Refusal;
 
 pub mod check;
 pub mod lists;
+pub mod part;
 
 // A gap as a station lends it in a list of records.
 pub struct GapRecord {

@@ -1,0 +1,156 @@
+-- The records that are kept are the list's, if it is not too long, and three lists hold their numbers.
+use Prim.Native.Nat.{ℕ, zero, suc, _+_, _≤_, _<_}
+use mathlib.Core.Path.{_≡_, refl, sym, _∙_}
+use mathlib.Core.Bool.{Bool, true, false, cond, not, _||_}
+use mathlib.Core.List.{List}
+use native.Mathlib.Omega.{arith}
+use native.Mathlib.Numerals.{add-one}
+use lib.Dec.{T, ltb, eqb, eqb-refl}
+use lib.ListN.{length, getD, set, take, replicate, length-set, length-replicate}
+use lib.Seq.{getD-set-same, getD-set-other, getD-take, length-take-le}
+use lib.IntN.{ℤ, pos}
+use borrow.Author.Tests.{ltb-true, ltb-false}
+use Rattle.layout.specs.declared.GapRecord.{GapRecord}
+use Rattle.layout.specs.declared.Answer.{Answer}
+use Rattle.layout.specs.Lent.{Read, Written, lists, records, recordAt, noRecord}
+use Rattle.layout.specs.Refusals.{Verdict, check, table}
+use Rattle.layout.specs.Promise.{Promise, ByTable, refusal}
+use Rattle.records.specs.Records.{keptOf, copied, Apart, Keeps}
+use Rattle.records.proofs.Same.{SameGaps, promise-same}
+
+-- ---- copying
+
+pub copied-none : (gs : List GapRecord) → copied gs 0 ≡ replicate 192 noRecord
+unfolding copied
+copied-none gs = refl
+
+pub copied-more : (gs : List GapRecord) (n : ℕ) → copied gs (n + 1) ≡ set (copied gs n) n (getD gs n noRecord)
+unfolding copied
+copied-more gs n = rw add-one refl
+
+pub copied-length : (gs : List GapRecord) (n : ℕ) → length (copied gs n) ≡ 192
+unfolding copied
+copied-length gs zero = length-replicate 192 noRecord
+copied-length gs (suc n) = length-set (copied gs n) n (getD gs n noRecord) ∙ copied-length gs n
+
+copied-at : (gs : List GapRecord) (n : ℕ) → n ≤ 192 → (k : ℕ) → k < n → getD (copied gs n) k noRecord ≡ getD gs k noRecord
+unfolding copied
+copied-at gs zero h k l = absurd (omega arith)
+copied-at gs (suc n) h k l = go (copied-at gs n (omega arith) k) (ltb k n) refl
+  where
+    go : (k < n → getD (copied gs n) k noRecord ≡ getD gs k noRecord) → (b : Bool) → ltb k n ≡ b → getD (set (copied gs n) n (getD gs n noRecord)) k noRecord ≡ getD gs k noRecord
+    go before true e =
+        let below : k < n = ltb-true k n e in
+        getD-set-other (copied gs n) n k (getD gs n noRecord) noRecord (λ q. omega arith) ∙ before below
+    go before false e =
+        let same : k ≡ n = omega (arith, ltb-false k n e) in
+        rw same (getD-set-same (copied gs n) n (getD gs n noRecord) noRecord (omega (arith, copied-length gs n)))
+
+pub kept-none : (count : ℕ) → 192 < count → keptOf count ≡ 0
+kept-none count h = go (ltb 192 count) refl
+  where
+    go : (b : Bool) → ltb 192 count ≡ b → cond b 0 count ≡ 0
+    go true e = refl
+    go false e = absurd (omega (arith, ltb-false 192 count e))
+
+pub kept-all : (count : ℕ) → count ≤ 192 → keptOf count ≡ count
+kept-all count h = go (ltb 192 count) refl
+  where
+    go : (b : Bool) → ltb 192 count ≡ b → cond b 0 count ≡ count
+    go true e = absurd (omega (arith, ltb-true 192 count e))
+    go false e = refl
+
+pub kept-most : (count : ℕ) → (keptOf count ≤ count) × (keptOf count ≤ 192)
+kept-most count = go (ltb 192 count) refl
+  where
+    go : (b : Bool) → ltb 192 count ≡ b → (cond b 0 count ≤ count) × (cond b 0 count ≤ 192)
+    go true e = (omega arith, omega arith)
+    go false e = (omega arith, ltb-false 192 count e)
+
+-- what is copied is what is kept
+pub copied-keeps : (gs : List GapRecord) → Keeps gs (length gs) (copied gs (keptOf (length gs)))
+copied-keeps gs = record { counted = refl; all = λ h k l. rw (kept-all (length gs) h) (copied-at gs (length gs) h k l) }
+
+-- ---- taking apart
+
+-- the first n are taken apart
+pub record ApartTo (n : ℕ) (kept : List GapRecord) (left right : List ℕ) (distance : List ℤ) : Type 0 where
+  pub left-length : length left ≡ 192
+  pub right-length : length right ≡ 192
+  pub distance-length : length distance ≡ 192
+  pub lefts : (k : ℕ) → k < n → getD left k 0 ≡ getD kept k noRecord .left
+  pub rights : (k : ℕ) → k < n → getD right k 0 ≡ getD kept k noRecord .right
+  pub distances : (k : ℕ) → k < n → getD distance k (pos 0) ≡ getD kept k noRecord .distance
+
+pub apart-start : (kept : List GapRecord) {left right : List ℕ} {distance : List ℤ} → length left ≡ 192 → length right ≡ 192 → length distance ≡ 192 → ApartTo 0 kept left right distance
+apart-start kept l r d = record { left-length = l; right-length = r; distance-length = d; lefts = λ k h. absurd (omega arith); rights = λ k h. absurd (omega arith); distances = λ k h. absurd (omega arith) }
+
+-- one more entry
+set-more : {A : Type 0} (none : A) (l : List A) (n : ℕ) (f : ℕ → A) → n < length l → ((k : ℕ) → k < n → getD l k none ≡ f k) → (k : ℕ) → k < n + 1 → getD (set l n (f n)) k none ≡ f k
+set-more none l n f room h k b = go (ltb k n) refl
+  where
+    go : (t : Bool) → ltb k n ≡ t → getD (set l n (f n)) k none ≡ f k
+    go true e = let below : k < n = ltb-true k n e in getD-set-other l n k (f n) none (λ q. omega arith) ∙ h k below
+    go false e = let same : k ≡ n = omega (arith, ltb-false k n e) in rw same (getD-set-same l n (f n) none room)
+
+pub apart-turn : {n : ℕ} {kept : List GapRecord} {left right : List ℕ} {distance : List ℤ} {d : ℤ} → n < 192 → d ≡ getD kept n noRecord .distance → ApartTo n kept left right distance
+    → ApartTo (n + 1) kept (set left n (getD kept n noRecord .left)) (set right n (getD kept n noRecord .right)) (set distance n d)
+apart-turn {n} {kept} {left} {right} {distance} {d} room e a =
+    record {
+      left-length = length-set left n _ ∙ a .left-length;
+      right-length = length-set right n _ ∙ a .right-length;
+      distance-length = length-set distance n _ ∙ a .distance-length;
+      lefts = set-more 0 left n (λ k. getD kept k noRecord .left) (omega (arith, a .left-length)) (a .lefts);
+      rights = set-more 0 right n (λ k. getD kept k noRecord .right) (omega (arith, a .right-length)) (a .rights);
+      distances = rw e (set-more (pos 0) distance n (λ k. getD kept k noRecord .distance) (omega (arith, a .distance-length)) (a .distances));
+    }
+
+pub apart-end : {n : ℕ} {kept : List GapRecord} {left right : List ℕ} {distance : List ℤ} → 192 ≤ n → ApartTo n kept left right distance → Apart kept left right distance
+apart-end h a =
+    record {
+      left-length = a .left-length;
+      right-length = a .right-length;
+      distance-length = a .distance-length;
+      lefts = λ k l. a .lefts k (omega arith);
+      rights = λ k l. a .rights k (omega arith);
+      distances = λ k l. a .distances k (omega arith);
+    }
+
+-- ---- the promise
+
+module _ (wanted weight : List ℤ) (count : ℕ) (kept : List GapRecord) (w : Written) where
+  -- the front of the three lists is the list of records
+  pub promise-kept : (left right : List ℕ) (distance : List ℤ) (a : Answer) (after : Written) → count ≤ 192 → Apart kept left right distance
+      → Promise (record { wanted = wanted; weight = weight; gaps = lists (take count left) (take count right) (take count distance) }) w a after
+      → (gs : List GapRecord) → Keeps gs count kept → Promise (record { wanted = wanted; weight = weight; gaps = records gs }) w a after
+  promise-kept left right distance a after few apart p gs keeps = promise-same wanted weight same w after a p
+    where
+      sizes : (length (take count left) ≡ count) × (length (take count right) ≡ count) × (length (take count distance) ≡ count)
+      sizes = (length-take-le count left (omega (arith, apart .left-length)), length-take-le count right (omega (arith, apart .right-length)), length-take-le count distance (omega (arith, apart .distance-length)))
+
+      gaps : (k : ℕ) → k < length (take count left) → recordAt (lists (take count left) (take count right) (take count distance)) k ≡ getD gs k noRecord
+      gaps k l =
+          let below : k < count = omega (arith, sizes .0) in
+          let whole : k < 192 = omega arith in
+          (λ i. record {
+            left = (getD-take count left k 0 below ∙ apart .lefts k whole) i;
+            right = (getD-take count right k 0 below ∙ apart .rights k whole) i;
+            distance = (getD-take count distance k (pos 0) below ∙ apart .distances k whole) i;
+          }) ∙ keeps .all few k below
+
+      even : (b : Bool) → T b → (not b || not b) ≡ false
+      even true t = refl
+
+      same : SameGaps (lists (take count left) (take count right) (take count distance)) (records gs)
+      same = record { count = sizes .0 ∙ sym (keeps .counted); even = rw (sizes .0, sizes .1, sizes .2) (even (eqb count count) (eqb-refl count)); gap = gaps }
+
+  -- a list that is too long is refused by the first two checks
+  long-kept : (r : Read) (a : Answer) (b c : Bool) (later : Verdict) → (c ≡ false → ⊥) → a ≡ refusal (cond b 1 2) 0 0 → ByTable (check 1 b (check 2 c later)) r w a w
+  long-kept r a true c later h e = (e, refl)
+  long-kept r a false true later h e = (e, refl)
+  long-kept r a false false later h e = absurd (h refl)
+
+  pub promise-long : (a : Answer) (many : Bool) → 192 < count → ltb 48 (length wanted) ≡ many → a ≡ refusal (cond many 1 2) 0 0 → (gs : List GapRecord) → Keeps gs count kept → Promise (record { wanted = wanted; weight = weight; gaps = records gs }) w a w
+  unfolding table
+  promise-long a many long t e gs keeps =
+      record { kept = long-kept (record { wanted = wanted; weight = weight; gaps = records gs }) a (ltb 48 (length wanted)) (ltb 192 (length gs)) _ (λ q. omega (arith, ltb-false 192 (length gs) q, keeps .counted)) (rw t e) }

@@ -1,0 +1,85 @@
+-- `records::take_apart` meets its contract. The loop's invariant: the first k records are taken apart. The measure is the records left.
+use Prim.Native.Nat.{_≤_, _-_}
+use native.Mathlib.Omega.{arith}
+use mir.Syntax.{w64}
+use mir.ValLaws.{toZ-ofZ}
+use Rattle.records.proofs.Kept.{ApartTo, apart-start, apart-turn, apart-end}
+use Rattle.records.proofs.take_apart.Statement.{statement}
+use Rattle.records.proofs.take_apart.Tie as tie
+
+abbrev Inv-loop : tie.InvT-loop
+Inv-loop left₀ right₀ distance₀ kept k₀ left right distance k = (k ≤ 192) × ApartTo k kept left right distance
+
+abbrev μ-loop : tie.MeasureT-loop
+μ-loop left₀ right₀ distance₀ kept k₀ left right distance k = 192 - k
+
+whole-ends-requires : tie.Need-whole-ends-requires Inv-loop μ-loop
+whole-ends-requires c κs = tt
+
+whole-ends-requires-2 : tie.Need-whole-ends-requires-2 Inv-loop μ-loop
+whole-ends-requires-2 c κs = tt
+
+whole-distances-requires : tie.Need-whole-distances-requires Inv-loop μ-loop
+whole-distances-requires c κs = tt
+
+loop-holds : tie.Need-loop-holds Inv-loop μ-loop
+loop-holds c = (omega arith, apart-start _ (c .before .before .before .before .whole-ends .ensures) (c .before .before .whole-ends2 .ensures) (c .whole-distances .ensures))
+
+mul-gap : tie.Need-mul-gap Inv-loop μ-loop
+mul-gap c = omega arith
+
+array-copy-out-gap : tie.Need-array-copy-out-gap Inv-loop μ-loop
+array-copy-out-gap c = omega arith
+
+mul-left : tie.Need-mul-left Inv-loop μ-loop
+mul-left c = omega arith
+
+element-write-left : tie.Need-element-write-left Inv-loop μ-loop
+element-write-left c = omega arith
+
+mul-right : tie.Need-mul-right Inv-loop μ-loop
+mul-right c = omega arith
+
+element-write-right : tie.Need-element-write-right Inv-loop μ-loop
+element-write-right c = omega arith
+
+mul-d : tie.Need-mul-d Inv-loop μ-loop
+mul-d c = omega arith
+
+element-set-from-d : tie.Need-element-set-from-d Inv-loop μ-loop
+element-set-from-d c = omega arith
+
+add-k : tie.Need-add-k Inv-loop μ-loop
+add-k c = omega arith
+
+loop-less : tie.Need-loop-less Inv-loop μ-loop
+loop-less c = omega arith
+
+loop-again : tie.Need-loop-again Inv-loop μ-loop
+loop-again c = (omega arith, apart-turn (omega arith) (toZ-ofZ w64 _ (record { sfits = c .struct-told .given .1 .1 .0 .1 })) (c .before .before .before .loop .inv .1))
+
+returns : tie.Need-returns Inv-loop μ-loop
+returns c = apart-end (omega arith) (c .before .loop .inv .1)
+
+pub take-apart-spec : {M : Type 1} → statement M
+take-apart-spec =
+    tie.close
+    (tie.spec
+    Inv-loop
+    μ-loop
+    whole-ends-requires
+    whole-ends-requires-2
+    whole-distances-requires
+    loop-holds
+    mul-gap
+    array-copy-out-gap
+    mul-left
+    element-write-left
+    mul-right
+    element-write-right
+    mul-d
+    element-set-from-d
+    add-k
+    loop-less
+    loop-again
+    returns)
