@@ -31,6 +31,7 @@ use Rattle.layout.specs.declared.Answer.{Answer}
 use Rattle.layout.specs.declared.Answer.the-variants.{Placed}
 use Rattle.layout.specs.Lent.{Read, Written, lists, sheetOf, placeOf, multiplierOf}
 use Rattle.layout.specs.Refusals.{refuse, pass, outside, unequal, table}
+use Rattle.layout.specs.Checks.{answerOf}
 use Rattle.layout.specs.Promise.{Promise, ByTable, Judged, Accepted, Filled, RingGiven, forwards, refusal}
 use Rattle.layout.proofs.Facts.{Passed, table-passed, or-clear, ends-in, passed-proper}
 
@@ -215,14 +216,25 @@ module _ (wanted weight : List ℤ) (left right : List ℕ) (distance : List ℤ
       )
 
   -- the core's answer
-  module _ (back : List ℕ) (after : Buffers) {found : Projected} {a : Answer} (says : core.SaysOf given found (buffersOf w back) after) where
-    pub judged-placed : found ≡ Found.Placed → a ≡ Placed → Judged sheet w a (writtenOf after)
+  module _ (back : List ℕ) (after : Buffers) (found : Projected) {a : Answer} (says : core.SaysOf given found (buffersOf w back) after) where
+    judged-placed : found ≡ Found.Placed → a ≡ Placed → Judged sheet w a (writtenOf after)
     judged-placed f e = inl (e, accepted (subst (λ (x : Projected). core.SaysOf given x (buffersOf w back) after) f says))
 
-    pub judged-ring : {size : ℕ} → length back ≡ 48 → found ≡ Found.Ring size → a ≡ refusal 9 0 size → Judged sheet w a (writtenOf after)
+    judged-ring : {size : ℕ} → length back ≡ 48 → found ≡ Found.Ring size → a ≡ refusal 9 0 size → Judged sheet w a (writtenOf after)
     judged-ring {size} b f e =
         let told : ((p : Placement) → ¬ (Feasible (sheetOf sheet) p)) × RingGiven sheet w (writtenOf after) size = ring-refused b (subst (λ (x : Projected). core.SaysOf given x (buffersOf w back) after) f says) in
         subst (λ (x : Answer). Judged sheet w x (writtenOf after)) (sym e) (inr (refl, told .0, told .1))
+
+    pub judged : length back ≡ 48 → a ≡ answerOf found → Judged sheet w a (writtenOf after)
+    judged b = go found refl
+      where
+        go : (x : Projected) → found ≡ x → a ≡ answerOf x → Judged sheet w a (writtenOf after)
+        go Found.Placed f e = judged-placed f e
+        go (Found.Ring size) f e = judged-ring b f e
+
+-- the answer to a ring
+pub ring-answered : (found : Projected) (size : ℕ) → found ≡ Found.Ring size → refusal 9 0 size ≡ answerOf found
+ring-answered found size e = sym (ap answerOf e)
 
 -- ---- the promise
 

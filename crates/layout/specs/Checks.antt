@@ -6,10 +6,15 @@ use mathlib.Core.Bool.{Bool, not, _||_}
 use lib.Dec.{ltb}
 use lib.ListN.{length, getD}
 use lib.IntN.{ℤ, pos, negsuc}
+use Rattle.projection.specs.declared.Projected.{Projected}
+use Rattle.projection.specs.declared.Projected.the-variants as Found
+use Rattle.layout.specs.declared.Answer.{Answer}
+use Rattle.layout.specs.declared.Answer.the-variants.{Placed}
 use Rattle.layout.specs.declared.Checked.{Checked}
 use Rattle.layout.specs.declared.Checked.the-variants.{Pass, Refuse}
 use Rattle.layout.specs.declared.check.Room.{Room}
 use Rattle.layout.specs.Lent.{Read, Written, lists}
+use Rattle.layout.specs.Promise.{refusal}
 use Rattle.layout.specs.Refusals.{Verdict, refuse, pass, check, outside, unequal, offender, table}
 
 -- the verdict that an answer of the checks stands for
@@ -32,6 +37,11 @@ CheckedBy wanted weight left right distance room r =
     (w : Written) → Sizes w room → verdictOf r ≡ table (record { wanted = wanted; weight = weight; gaps = lists left right distance }) w
 
 -- ---- The rest is used by the private functions.
+
+-- the answer to what the core comes to
+abbrev pub answerOf : Projected → Answer
+answerOf Found.Placed = Placed
+answerOf (Found.Ring size) = refusal 9 0 size
 
 -- what an answer finds, or else what the later checks find
 abbrev pub onward : Checked → Verdict → Verdict

@@ -9,17 +9,33 @@ use projection::project::project;
 ghost use Rattle.layout.specs.Lent.{lists};
 ghost use mathlib.Core.Path.{_≡_};
 ghost use Rattle.layout.specs.Promise.{Promise, Judged, refusal};
+ghost use Rattle.layout.specs.Checks.{answerOf};
 ghost use Rattle.layout.specs.Refusals.{table, pass};
 
 // A refusal.
 fn refused(number: usize, place: usize, ring: usize) -> Answer
     ensures { λ r. ⌜ r ≡ refusal number place ring ⌝ }
 {
-    Answer::Refused(Refusal {
+    let told = Refusal {
         number,
         place,
         ring,
-    })
+    };
+    Answer::Refused(told)
+}
+
+// The answer to what the core came to: a ring is refusal 9, whose place is 0.
+fn answered(found: Projected) -> Answer
+    ensures { λ r. ⌜ r ≡ answerOf found ⌝ }
+{
+    match found {
+        Projected::Placed => Answer::Placed,
+        Projected::Ring(size) => Answer::Refused(Refusal {
+            number: 9,
+            place: 0,
+            ring: size,
+        }),
+    }
 }
 
 // Lays out a sheet that passed the checks: every gap asks for at least its distance.
@@ -57,10 +73,7 @@ fn place(
         ring,
         &mut back,
     );
-    match found {
-        Projected::Placed => Answer::Placed,
-        Projected::Ring(size) => refused(9, 0, size),
-    }
+    answered(found)
 }
 
 // Lays out a sheet. Anything may be lent; a sheet that breaks a rule is refused, and then nothing is written but a ring's gap numbers.

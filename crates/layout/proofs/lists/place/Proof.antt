@@ -6,7 +6,7 @@ use denote.Ref.{now}
 use borrow.Author.Needs.{needs}
 use Rattle.projection.specs.Project.{Buffers}
 use Rattle.layout.specs.Lent.{Written}
-use Rattle.layout.proofs.Judging.{few-gaps, kinds-length, passed-ready, judged-placed, judged-ring}
+use Rattle.layout.proofs.Judging.{few-gaps, kinds-length, passed-ready, judged}
 use Rattle.layout.proofs.lists.place.Statement.{statement}
 use Rattle.layout.proofs.lists.place.Tie as tie
 
@@ -36,14 +36,8 @@ slice-aggregate-project-2 c = search needs
 project-requires : tie.Need-project-requires
 project-requires c κs = let s = c .before .before .before .before .before .before .before .before .before .before .before .before in passed-ready (now (s .args .wanted)) (now (s .args .weight)) (now (s .args .left)) (now (s .args .right)) (now (s .args .distance)) (lent s) (s .pre) (replicate 48 0) refl
 
-enum-told : tie.Need-enum-told
-enum-told c = search needs
-
-enum-known-found : tie.Need-enum-known-found
-enum-known-found c = search needs
-
-refused-requires : tie.Need-refused-requires
-refused-requires c κs = search needs
+answered-requires : tie.Need-answered-requires
+answered-requires c κs = search needs
 
 same-length : tie.Need-same-length
 same-length c = search needs
@@ -64,28 +58,7 @@ same-length-6 : tie.Need-same-length-6
 same-length-6 c = search needs
 
 returns : tie.Need-returns
-returns c = let s = c .before .before .before .before .before .before .before .before .before .before .before .before .before .before .before .before .before .before .before .before .before .before .before .before in judged-placed (now (s .args .wanted)) (now (s .args .weight)) (now (s .args .left)) (now (s .args .right)) (now (s .args .distance)) (lent s) (s .pre) (replicate 48 0) (left-by (c .before .before .before .before .before .before .before .before .before .before .before)) (c .before .before .before .before .before .before .before .before .before .before .before .project .ensures) (c .enum-told .given .1) refl
-
-same-length-7 : tie.Need-same-length-7
-same-length-7 c = search needs
-
-same-length-8 : tie.Need-same-length-8
-same-length-8 c = search needs
-
-same-length-9 : tie.Need-same-length-9
-same-length-9 c = search needs
-
-same-length-10 : tie.Need-same-length-10
-same-length-10 c = search needs
-
-same-length-11 : tie.Need-same-length-11
-same-length-11 c = search needs
-
-same-length-12 : tie.Need-same-length-12
-same-length-12 c = search needs
-
-returns-2 : tie.Need-returns-2
-returns-2 c = let s = c .before .before .before .before .before .before .before .before .before .before .before .before .before .before .before .before .before .before .before .before .before .before .before .before .before .before in judged-ring (now (s .args .wanted)) (now (s .args .weight)) (now (s .args .left)) (now (s .args .right)) (now (s .args .distance)) (lent s) (s .pre) (replicate 48 0) (left-by (c .before .before .before .before .before .before .before .before .before .before .before .before .before)) (c .before .before .before .before .before .before .before .before .before .before .before .before .before .project .ensures) refl (c .before .before .found .given .1) (c .refused .ensures)
+returns c = let s = c .before .before .before .before .before .before .before .before .before .before .before .before .before .before .before .before .before .before .before .before .before .before .before in judged (now (s .args .wanted)) (now (s .args .weight)) (now (s .args .left)) (now (s .args .right)) (now (s .args .distance)) (lent s) (s .pre) (replicate 48 0) (left-by (c .before .before .before .before .before .before .before .before .before .before)) (c .before .before .before .before .before .before .before .before .before .before .project .result) (c .before .before .before .before .before .before .before .before .before .before .project .ensures) refl (c .answered .ensures)
 
 pub place-spec : {M : Type 1} → statement M
 place-spec =
@@ -95,20 +68,11 @@ place-spec =
     slice-aggregate-project
     slice-aggregate-project-2
     project-requires
-    enum-told
-    enum-known-found
-    refused-requires
+    answered-requires
     same-length
     same-length-2
     same-length-3
     same-length-4
     same-length-5
     same-length-6
-    returns
-    same-length-7
-    same-length-8
-    same-length-9
-    same-length-10
-    same-length-11
-    same-length-12
-    returns-2)
+    returns)
