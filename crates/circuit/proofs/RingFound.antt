@@ -21,7 +21,7 @@ use Rattle.least_move.proofs.Sides.{Numbers, Pushed, Pushes}
 use Rattle.forest.specs.Tree.{Linked, nat, int}
 use Rattle.step.specs.Problem.{Problem, Limits, kindOf, graphOf, marksOf, numbersOf}
 use Rattle.step.specs.Advance.{Blocked}
-use Rattle.circuit.specs.Way.{Climbable, WayWritten, wayFrom, gapAbove, backAt, sheetFrom, stepOf}
+use Rattle.circuit.specs.Way.{Climbable, WayWritten, wayFrom, gapAbove, backAt, sheetFrom, stepOf, stepsOf, IsRing}
 use Rattle.circuit.proofs.Climb.{way-more, way-done}
 
 -- ---- plain facts
@@ -55,19 +55,9 @@ map-twice : {A : Type 0} (g : ℕ → A) (f : ℕ → ℕ) (l : List ℕ) → ma
 map-twice g f [] = refl
 map-twice {A} g f (x ∷ l) = ap (λ (r : List A). g (f x) ∷ r) (map-twice g f l)
 
--- the steps that the two lists hold
-abbrev pub stepsOf : List ℕ → List ℕ → List Step
-stepsOf [] backs = []
-stepsOf (e ∷ es) [] = []
-stepsOf (e ∷ es) (back ∷ backs) = stepOf e back ∷ stepsOf es backs
-
 steps-map : (f g : ℕ → ℕ) (l : List ℕ) → stepsOf (map f l) (map g l) ≡ map (λ x. stepOf (f x) (g x)) l
 steps-map f g [] = refl
 steps-map f g (x ∷ l) = ap (λ (r : List Step). stepOf (f x) (g x) ∷ r) (steps-map f g l)
-
-abbrev pub IsRing : Sheet → List Step → Type 0
-IsRing s [] = ⊥
-IsRing s (t ∷ ts) = Ring s t ts
 
 -- ---- the labels of the way that stand in the block
 module _ {p : Problem} {mark : List ℕ} {a b : ℕ} {at queue via up : List ℕ} {off : List ℤ} (bl : Blocked p mark a b at queue via up off) where

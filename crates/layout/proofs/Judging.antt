@@ -20,8 +20,7 @@ use Rattle.least_move.specs.Ring.{Ring, Passable}
 use Rattle.least_move.proofs.Laws.{least-of-conditions, ring-excludes}
 use Rattle.forest.specs.Tree.{nat, int}
 use Rattle.step.specs.Problem.{Problem, Limits, kindOf}
-use Rattle.circuit.specs.Way.{sheetFrom}
-use Rattle.circuit.proofs.RingFound.{stepsOf, IsRing}
+use Rattle.circuit.specs.Way.{sheetFrom, stepsOf, IsRing}
 use Rattle.projection.specs.Project.{Buffers, Ready, Solved, problemOf}
 use Rattle.projection.specs.Project as core
 use Rattle.projection.specs.declared.Projected.{Projected}

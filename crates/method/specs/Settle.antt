@@ -15,8 +15,7 @@ use Rattle.step.specs.Problem.{Problem, marksOf, numbersOf}
 use Rattle.step.specs.Advance.{IsForest}
 use Rattle.placing.specs.Places.{PlacesFound}
 use Rattle.violation.specs.Violation.{GapHolds}
-use Rattle.circuit.specs.Way.{sheetFrom}
-use Rattle.circuit.proofs.RingFound.{stepsOf, IsRing}
+use Rattle.circuit.specs.Way.{sheetFrom, stepsOf, IsRing}
 use Rattle.method.specs.declared.Push.{Push}
 use Rattle.method.specs.declared.Turn.{Turn}
 use Rattle.method.specs.declared.Turn.the-variants.{Done, Again, Ring}

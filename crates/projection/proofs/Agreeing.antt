@@ -26,8 +26,7 @@ use Rattle.least_move.specs.Marks.{Step, start, finish, Leads, Each, Marks, Mar
 use Rattle.least_move.specs.Ring.{Ring, Passable, distanceOf, lengthOf, OnceLeft}
 use Rattle.forest.specs.Tree.{nat, int}
 use Rattle.step.specs.Problem.{Problem, Limits, kindOf}
-use Rattle.circuit.specs.Way.{sheetFrom}
-use Rattle.circuit.proofs.RingFound.{stepsOf, IsRing}
+use Rattle.circuit.specs.Way.{sheetFrom, stepsOf, IsRing}
 use Rattle.method.specs.Settle.{RingStands}
 use Rattle.projection.specs.Core.{CorePlaced, fraction}
 use Rattle.projection.specs.Project.{Copied, FrontWritten, FractionsWritten, Buffers, Ready, Solved, RingGiven, problemOf}

@@ -14,8 +14,7 @@ use Rattle.least_move.specs.Multipliers.{Conditions}
 use Rattle.least_move.specs.Marks.{Marks}
 use Rattle.forest.specs.Tree.{nat, int}
 use Rattle.step.specs.Problem.{Problem, Limits, marksOf}
-use Rattle.circuit.specs.Way.{sheetFrom}
-use Rattle.circuit.proofs.RingFound.{stepsOf, IsRing}
+use Rattle.circuit.specs.Way.{sheetFrom, stepsOf, IsRing}
 use Rattle.projection.specs.declared.Projected.{Projected}
 use Rattle.projection.specs.declared.Projected.the-variants.{Placed, Ring}
 use Rattle.projection.specs.Core.{fraction}
