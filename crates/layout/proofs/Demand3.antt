@@ -24,7 +24,7 @@ use Rattle.layout.specs.Lent.{Read, Written, labelCount, sheetOf, placeO
 use Rattle.layout.specs.Refusals.{pass, table}
 use Rattle.layout.specs.Promise.{Promise, Accepted}
 use Rattle.layout.specs.Demand3.{SameSheets, Demand3, wantOf}
-use Rattle.layout.proofs.Facts.{placed-exactly, placed-accepted, placed-least, placed-proper}
+use Rattle.layout.proofs.Facts.{placed-exactly, accepted-exactly, placed-accepted, placed-least, placed-proper}
 
 -- ---- sheets that are the same but for their wants
 
@@ -105,6 +105,8 @@ module _ {r : Read} {w : Written} {a : Answer} {after : Written} {r′ : Read} {
   demand-3 =
       record {
         both-or-neither = accepted-together;
+        accepted = accepted-exactly one;
+        accepted′ = accepted-exactly two;
         least = placed-least one;
         least′ = placed-least two;
         largest-move = λ placed placed′ q hq _ near. moved placed placed′ q hq near;

@@ -155,6 +155,9 @@ module _ {r : Read} {w after : Written} {a : Answer} (promise : Promise r w a af
     λ one. judged e (λ placed _. placed) (λ _ none _. absurd (none (one .0) (one .1))),
   )
 
+  pub accepted-exactly : (a ≡ Placed) ↔ ((table r w ≡ pass) × ((p : Placement) × Feasible (sheetOf r) p))
+  accepted-exactly = ((λ placed. (placed-passes placed, placed-exactly (placed-passes placed) .0 placed)), λ both. placed-exactly (both .0) .1 (both .1))
+
   -- answered 9 exactly if none does
   pub nine-exactly : table r w ≡ pass → (numberOf a ≡ 9) ↔ ((p : Placement) → ¬ (Feasible (sheetOf r) p))
   nine-exactly e = (

@@ -7,7 +7,7 @@ use lib.IntN.{ℤ, pos}
 use Rattle.exact.specs.declared.Fraction.{Fraction}
 use Rattle.exact.specs.Fraction.{IsFraction, _≼_, whole}
 use Rattle.least_move.specs.declared.Label.{Label}
-use Rattle.least_move.specs.Placement.{LeastMove}
+use Rattle.least_move.specs.Placement.{Placement, Feasible, LeastMove}
 use Rattle.least_move.specs.Moved.{Within}
 use Rattle.layout.specs.declared.Answer.{Answer}
 use Rattle.layout.specs.declared.Answer.the-variants.{Placed}
@@ -25,10 +25,17 @@ pub record SameSheets (r r′ : Read) : Type 0 where
 abbrev pub wantOf : Read → Label → ℤ
 wantOf r i = getD (r .wanted) (i .0) (pos 0)
 
+-- some placement meets all gaps of the sheet
+abbrev pub Placeable : Read → Type 0
+Placeable r = (p : Placement) × Feasible (sheetOf r) p
+
 -- Of two calls on sheets that have the same weights and gaps. "A sheet is accepted if its call answers placed"; the records and buffers lent to write may differ in all they hold.
 pub record Demand3 (r : Read) (w : Written) (a : Answer) (after : Written) (r′ : Read) (w′ : Written) (a′ : Answer) (after′ : Written) : Type 0 where
   -- where the table lets both pass, both are accepted or neither
   pub both-or-neither : table r w ≡ pass → table r′ w′ ≡ pass → (a ≡ Placed) ↔ (a′ ≡ Placed)
+  -- since each is accepted exactly if the table lets it pass and a placement meets all gaps
+  pub accepted : (a ≡ Placed) ↔ ((table r w ≡ pass) × Placeable r)
+  pub accepted′ : (a′ ≡ Placed) ↔ ((table r′ w′ ≡ pass) × Placeable r′)
   -- the places are the least moves of demand 2
   pub least : a ≡ Placed → LeastMove (sheetOf r) (placeOf after)
   pub least′ : a′ ≡ Placed → LeastMove (sheetOf r′) (placeOf after′)
