@@ -1,0 +1,20 @@
+-- `sheet_text::digits::put_byte` meets its contract: the byte is stored behind the text so far.
+use borrow.Author.Needs.{needs}
+use Rattle.sheet_text.proofs.Appending.{stored}
+use Rattle.sheet_text.proofs.digits.put_byte.Statement.{statement}
+use Rattle.sheet_text.proofs.digits.put_byte.Tie as tie
+
+slice-write-buf : tie.Need-slice-write-buf
+slice-write-buf c = search needs
+
+add-result : tie.Need-add-result
+add-result c = search needs
+
+same-length : tie.Need-same-length
+same-length c = search needs
+
+returns : tie.Need-returns
+returns c = stored _ _ _ (c .pre)
+
+pub put-byte-spec : {M : Type 1} → statement M
+put-byte-spec = tie.close (tie.spec slice-write-buf add-result same-length returns)
