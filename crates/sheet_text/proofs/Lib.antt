@@ -4,12 +4,12 @@ pub mod AnswerLaws
 pub mod LineLaws
 pub mod ArrayLaws
 pub mod ReadLaws
-pub mod Numerals
-pub mod Records
-pub mod Back
-pub mod Examples
 pub mod Appending
 pub mod Decimal
 pub mod Size
 pub mod Laying
 pub mod Samples
+pub mod Numerals
+pub mod Records
+pub mod Back
+pub mod Examples

@@ -11,6 +11,8 @@ use lib.IntN.{ℤ, pos, negsuc, natAbs}
 use lib.Signed.{_≤ℤ_}
 use borrow.Author.Tests.{ltb-true, lt-ltb, le-leb, ne-eqb}
 use Rattle.sheet_text.specs.Numeral.{digitZero, minus, allDigits, valueOf, number, optionMap, signed, weightOf, digitsOf, decimal, signedDecimal}
+use Rattle.sheet_text.proofs.DigitLaws.{value-append}
+use Rattle.sheet_text.proofs.Decimal.{length-decimal}
 
 -- ---- a property of every entry of a list
 
@@ -44,11 +46,6 @@ digits-only (suc most) n = go (ltb n 10) refl (digits-only most (n / 10))
     go true e before = omega (arith, ltb-true n 10 e)
     go false e before = each-append Digit (digitsOf most (n / 10)) _ before (omega arith)
 
-pub value-append : (n : ℕ) (xs ys : List ℕ) → valueOf n (xs ++ ys) ≡ valueOf (valueOf n xs) ys
-unfolding valueOf
-value-append n [] ys = refl
-value-append n (x ∷ xs) ys = value-append (10 * n + (x - digitZero)) xs ys
-
 -- the digits tell the number
 pub digits-value : (most n : ℕ) → n < 10 ^ most → valueOf 0 (digitsOf most n) ≡ n
 unfolding digitsOf valueOf
@@ -67,17 +64,6 @@ digits-least most n = go (ltb n 10)
     go true = omega arith
     go false = rw length-append (omega arith)
 
--- a number below a power of ten has at most that many digits
-pub digits-most : (most k n : ℕ) → n < 10 ^ suc k → length (digitsOf most n) ≤ suc k
-unfolding digitsOf
-digits-most zero k n h = omega arith
-digits-most (suc most) zero n h = rw (lt-ltb n 10 (omega arith)) (omega arith)
-digits-most (suc most) (suc k) n h = go (ltb n 10) (digits-most most k (n / 10) (omega arith))
-  where
-    go : (t : Bool) → length (digitsOf most (n / 10)) ≤ suc k → length (cond t ((digitZero + n) ∷ []) (digitsOf most (n / 10) ++ ((digitZero + n % 10) ∷ []))) ≤ suc (suc k)
-    go true before = omega arith
-    go false before = rw length-append (omega arith)
-
 -- a number of 64 bits has at most 20 digits: those that are written tell it
 pub decimal-value : (n : ℕ) → n < 10 ^ 20 → valueOf 0 (decimal n) ≡ n
 decimal-value n h = digits-value 20 n h
@@ -91,7 +77,7 @@ all-digits (b ∷ bs) h = rw (le-leb digitZero b (h .0 .0), le-leb b 57 (h .0 .1
 
 pub number-back : (n : ℕ) → n < 10 ^ 9 → number (decimal n) ≡ some n
 unfolding number
-number-back n h = rw (le-leb 1 _ (digits-least 19 n), le-leb _ 9 (digits-most 20 8 n h), all-digits _ (digits-only 20 n), decimal-value n (omega arith))
+number-back n h = rw (le-leb 1 _ (digits-least 19 n), le-leb _ 9 (length-decimal 8 n h), all-digits _ (digits-only 20 n), decimal-value n (omega arith))
 
 -- a digit is no minus sign
 signed-digits : (f : List ℕ) → Each Digit f → signed f ≡ optionMap pos (number f)
@@ -122,7 +108,3 @@ NumeralByte b = (minus ≤ b) × (b ≤ 57)
 pub signed-bytes : (z : ℤ) → Each NumeralByte (signedDecimal z)
 signed-bytes (pos n) = each-map Digit NumeralByte (λ b h. omega arith) (decimal n) (digits-only 20 n)
 signed-bytes (negsuc n) = (omega arith, each-map Digit NumeralByte (λ b h. omega arith) (decimal (suc n)) (digits-only 20 (suc n)))
-
-pub signed-most : (z : ℤ) → natAbs z < 10 ^ 9 → length (signedDecimal z) ≤ 10
-signed-most (pos n) h = omega (arith, digits-most 20 8 n h)
-signed-most (negsuc n) h = omega (arith, digits-most 20 8 (suc n) h)

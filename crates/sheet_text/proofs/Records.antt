@@ -17,7 +17,8 @@ use Rattle.sheet_text.specs.Numeral.{decimal, signedDecimal}
 use Rattle.sheet_text.specs.Taking.{same, labelWord, gapWord, rowOf, taken}
 use Rattle.sheet_text.specs.Listing.{next, recordEnd}
 use Rattle.sheet_text.specs.Printed.{labelRecord, gapRecord}
-use Rattle.sheet_text.proofs.Numerals.{Each, each-append, each-map, Digit, digits-only, NumeralByte, signed-bytes, signed-most, number-back, signed-back, weight-back}
+use Rattle.sheet_text.proofs.Decimal.{length-signed}
+use Rattle.sheet_text.proofs.Numerals.{Each, each-append, each-map, Digit, digits-only, NumeralByte, signed-bytes, number-back, signed-back, weight-back}
 
 -- ---- bytes that end neither a field nor a line
 
@@ -144,10 +145,10 @@ pub label-most : (i : ℕ) (r : LabelRow) → i < 10 ^ 9 → LabelFits r → len
 unfolding labelRecord
 label-most i r h f =
     record-most labelWord (decimal i) (signedDecimal (r .wanted)) (signedDecimal (r .weight)) (omega arith)
-    (signed-most (pos i) h) (signed-most (r .wanted) (f .wanted)) (signed-most (r .weight) (f .weight))
+    (length-signed 8 (pos i) h) (length-signed 8 (r .wanted) (f .wanted)) (length-signed 8 (r .weight) (f .weight))
 
 pub gap-most : (g : GapRecord) → GapFits g → length (gapRecord g) ≤ 40
 unfolding gapRecord
 gap-most g f =
     record-most gapWord (decimal (g .left)) (decimal (g .right)) (signedDecimal (g .distance)) (omega arith)
-    (signed-most (pos (g .left)) (f .left)) (signed-most (pos (g .right)) (f .right)) (signed-most (g .distance) (f .distance))
+    (length-signed 8 (pos (g .left)) (f .left)) (length-signed 8 (pos (g .right)) (f .right)) (length-signed 8 (g .distance) (f .distance))
