@@ -1,0 +1,13 @@
+-- `dirmoog_c::text::answer_of` meets its contract: the test is the one of the definition.
+use borrow.Author.Tests.{eq-eqb, ne-eqb}
+use Rattle.dirmoog_c.proofs.text.answer_of.Statement.{statement}
+use Rattle.dirmoog_c.proofs.text.answer_of.Tie as tie
+
+returns : tie.Need-returns
+returns c = rw (eq-eqb (c .before .args .number) 0 (c .if1 .taken))
+
+returns-2 : tie.Need-returns-2
+returns-2 c = rw (ne-eqb (c .before .args .number) 0 (c .if1 .left))
+
+pub answer-of-spec : {M : Type 1} → statement M
+answer-of-spec = tie.close (tie.spec returns returns-2)

@@ -1,0 +1,56 @@
+-- `dirmoog_c::text::dirmoog_listing` meets its contract: the listing is that of the answer that the number and the place tell.
+use borrow.Author.Needs.{needs}
+use mathlib.Core.Path.{ap, _∙_}
+use Rattle.layout.specs.declared.Answer.{Answer}
+use Rattle.sheet_text.specs.Listing.{Listing, listedIn}
+use Rattle.dirmoog_c.specs.Texted.{listedNumber, listedBytes}
+use Rattle.dirmoog_c.proofs.Telling.{told-at}
+use Rattle.dirmoog_c.proofs.text.dirmoog_listing.Statement.{statement}
+use Rattle.dirmoog_c.proofs.text.dirmoog_listing.Tie as tie
+
+answer-of-requires : tie.Need-answer-of-requires
+answer-of-requires c κs = search needs
+
+write-listing-requires : tie.Need-write-listing-requires
+write-listing-requires c κs = search needs
+
+listed-bytes-requires : tie.Need-listed-bytes-requires
+listed-bytes-requires c κs = search needs
+
+put-requires : tie.Need-put-requires
+put-requires c κs = search needs
+
+listed-number-requires : tie.Need-listed-number-requires
+listed-number-requires c κs = search needs
+
+same-length : tie.Need-same-length
+same-length c = search needs
+
+same-length-2 : tie.Need-same-length-2
+same-length-2 c = search needs
+
+returns : tie.Need-returns
+returns c =
+    let a = c .before .before .before .before .before .before .before .before .before .before .before .before .before .args in
+    let listing = ap (λ (r : Answer). listedIn r (a .place-num .now) (a .place-den .now) (a .text .now)) (c .before .before .before .before .before .before .before .before .before .before .answer-of .ensures) in
+    let wrote = c .before .before .before .before .before .before .before .before .write-listing .ensures in
+    let answer = wrote .0 ∙ ap (λ (l : Listing). l .answer) listing in (
+      c .listed-number .ensures ∙ ap listedNumber answer,
+      (
+        wrote .1 ∙ ap (λ (l : Listing). l .buffer) listing,
+        told-at (a .out .now) 0 (c .before .before .before .put .ensures) (c .before .before .before .before .listed-bytes .ensures ∙ ap listedBytes answer),
+      ),
+    )
+
+pub dirmoog-listing-spec : {M : Type 1} → statement M
+dirmoog-listing-spec =
+    tie.close
+    (tie.spec
+    answer-of-requires
+    write-listing-requires
+    listed-bytes-requires
+    put-requires
+    listed-number-requires
+    same-length
+    same-length-2
+    returns)

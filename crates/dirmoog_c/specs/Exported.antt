@@ -1,0 +1,19 @@
+-- What the exported calls owe: the promises of the entries under them, with the answer told in numbers.
+use Prim.Native.Nat.{ℕ}
+use mathlib.Core.Path.{_≡_}
+use mathlib.Core.List.{List}
+use lib.ListN.{set}
+use Rattle.layout.specs.declared.Answer.{Answer}
+use Rattle.layout.specs.Lent.{Read, Written}
+use Rattle.layout.specs.Promise.{Promise, numberOf, placedAt, ringLengthOf}
+
+-- two numbers told at the front of a lent list; setting an entry that the list has not leaves it as it is, so what fits is told
+abbrev pub told : ℕ → ℕ → List ℕ → List ℕ
+told first second out = set (set out 0 first) 1 second
+
+-- a layout call keeps its promise with an answer whose number it returns, and whose place and ring length it tells
+pub record Laid (r : Read) (w : Written) (out : List ℕ) (number : ℕ) (after : Written) (out-after : List ℕ) : Type 0 where
+  pub answer : Answer
+  pub kept : Promise r w answer after
+  pub returned : number ≡ numberOf answer
+  pub out-told : out-after ≡ told (placedAt answer) (ringLengthOf answer) out

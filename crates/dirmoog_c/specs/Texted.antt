@@ -1,0 +1,47 @@
+-- What the exported calls on texts owe: what the reader and the listing promise, with their answers told in numbers.
+use Prim.Native.Nat.{ℕ}
+use mathlib.Core.Path.{_≡_}
+use mathlib.Core.Bool.{cond}
+use mathlib.Core.List.{List}
+use lib.Dec.{eqb}
+use Rattle.layout.specs.declared.Answer.{Answer}
+use Rattle.layout.specs.declared.Answer.the-variants.{Placed}
+use Rattle.layout.specs.Promise.{refusal}
+use Rattle.sheet_text.specs.declared.Reading.{Reading}
+use Rattle.sheet_text.specs.declared.Reading.the-variants as read
+use Rattle.sheet_text.specs.declared.Listed.{Listed}
+use Rattle.sheet_text.specs.declared.Listed.the-variants as listed
+use Rattle.sheet_text.specs.Texts.{Lists, reading}
+use Rattle.dirmoog_c.specs.Exported.{told}
+
+-- this paper's number for each case of a reading, and what is told of it: the counts of labels and gaps, or the place and 0
+abbrev pub readNumber : Reading → ℕ
+readNumber (read.Sheet counts) = 0
+readNumber (read.Refused r) = r .number
+
+abbrev pub readFirst : Reading → ℕ
+readFirst (read.Sheet counts) = counts .labels
+readFirst (read.Refused r) = r .place
+
+abbrev pub readSecond : Reading → ℕ
+readSecond (read.Sheet counts) = counts .gaps
+readSecond (read.Refused r) = 0
+
+-- a text is read into lent lists, and what is told is told of that reading
+pub record ReadTold (text : List ℕ) (before : Lists) (out : List ℕ) (number : ℕ) (after : Lists) (out-after : List ℕ) : Type 0 where
+  pub lists : after ≡ reading text before .lists
+  pub returned : number ≡ readNumber (reading text before .answer)
+  pub out-told : out-after ≡ told (readFirst (reading text before .answer)) (readSecond (reading text before .answer)) out
+
+-- the answer that a number and a place tell: 0 is placed
+abbrev pub answerOf : ℕ → ℕ → Answer
+answerOf number place = cond (eqb number 0) Placed (refusal number place 0)
+
+-- this paper's number for each case of a listing, and the count of bytes written
+abbrev pub listedNumber : Listed → ℕ
+listedNumber (listed.Written bytes) = 0
+listedNumber (listed.Refused r) = r .number
+
+abbrev pub listedBytes : Listed → ℕ
+listedBytes (listed.Written bytes) = bytes
+listedBytes (listed.Refused r) = 0

@@ -1,0 +1,108 @@
+// The library for C and Rust: thin functions over the proved entries, on numbers and slices only. Anything may be lent.
+use exact::round::round;
+use layout::Answer;
+use layout::lists::lay_out;
+ghost use mathlib.Core.Path.{_≡_};
+ghost use lib.ListN.{set};
+ghost use Rattle.exact.specs.Round as rounding;
+ghost use Rattle.layout.specs.Lent.{lists};
+ghost use Rattle.layout.specs.Promise.{numberOf, placedAt, ringLengthOf};
+ghost use Rattle.dirmoog_c.specs.Exported.{Laid};
+
+pub mod text;
+
+// The number of an answer.
+fn number_of(answer: Answer) -> usize
+    ensures { λ r. ⌜ r ≡ numberOf answer ⌝ }
+{
+    match answer {
+        Answer::Placed => 0,
+        Answer::Refused(refusal) => refusal.number,
+    }
+}
+
+// The place of an answer.
+fn place_of(answer: Answer) -> usize
+    ensures { λ r. ⌜ r ≡ placedAt answer ⌝ }
+{
+    match answer {
+        Answer::Placed => 0,
+        Answer::Refused(refusal) => refusal.place,
+    }
+}
+
+// The ring's length of an answer.
+fn ring_of(answer: Answer) -> usize
+    ensures { λ r. ⌜ r ≡ ringLengthOf answer ⌝ }
+{
+    match answer {
+        Answer::Placed => 0,
+        Answer::Refused(refusal) => refusal.ring,
+    }
+}
+
+// Writes a number to an entry of a list, if the list has it.
+pub(crate) fn put(out: &mut [usize], at: usize, x: usize)
+    ensures { λ _. ⌜ now (out .exit) ≡ set (now (out .entry)) at x ⌝ }
+{
+    if at < out.len() {
+        out[at] = x;
+    }
+}
+
+// Writes a signed number to an entry of a list, if the list has it.
+fn put_signed(out: &mut [i64], at: usize, x: i64)
+    ensures { λ _. ⌜ now (out .exit) ≡ set (now (out .entry)) at x ⌝ }
+{
+    if at < out.len() {
+        out[at] = x;
+    }
+}
+
+// Lays out a sheet whose gaps are lent as three lists. Gives 0 for placed, else the refusal's number; out is told the place and the ring's length.
+#[no_mangle]
+pub extern "C" fn dirmoog_layout(
+    wanted: &[i64],
+    weight: &[i64],
+    left: &[usize],
+    right: &[usize],
+    distance: &[i64],
+    carried: &mut [u8],
+    place_num: &mut [i64],
+    place_den: &mut [i64],
+    mult_num: &mut [i64],
+    mult_den: &mut [i64],
+    ring: &mut [usize],
+    out: &mut [usize],
+) -> usize
+    ensures { λ r. ⌜ Laid (record { wanted = now (wanted .entry); weight = now (weight .entry); gaps = lists (now (left .entry)) (now (right .entry)) (now (distance .entry)) }) (record { «place-num» = now («place_num» .entry); «place-den» = now («place_den» .entry); «mult-num» = now («mult_num» .entry); «mult-den» = now («mult_den» .entry); ring = now (ring .entry); carried = now (carried .entry) }) (now (out .entry)) r (record { «place-num» = now («place_num» .exit); «place-den» = now («place_den» .exit); «mult-num» = now («mult_num» .exit); «mult-den» = now («mult_den» .exit); ring = now (ring .exit); carried = now (carried .exit) }) (now (out .exit)) ⌝ }
+{
+    let answer = lay_out(
+        wanted,
+        weight,
+        left,
+        right,
+        distance,
+        carried,
+        place_num,
+        place_den,
+        mult_num,
+        mult_den,
+        ring,
+    );
+    let number = number_of(answer);
+    put(out, 0, place_of(answer));
+    put(out, 1, ring_of(answer));
+    number
+}
+
+// Rounds a fraction to whole units. Gives 0, or 12 for a bad fraction; out is told the whole number, which is 0 for a refusal.
+#[no_mangle]
+pub extern "C" fn dirmoog_round(num: i64, den: i64, out: &mut [i64]) -> usize
+    ensures { λ r. ⌜ r ≡ rounding.numberOf (rounding.rounded num den) ⌝ }
+    ensures { λ _. ⌜ now (out .exit) ≡ set (now (out .entry)) 0 (rounding.wholeOf (rounding.rounded num den)) ⌝ }
+{
+    let answer = round(num, den);
+    put_signed(out, 0, answer.whole());
+    answer.number()
+}

@@ -1,0 +1,116 @@
+// The sheet text and the listing for C and Rust.
+use crate::put;
+use exact::Refusal;
+use layout::Answer;
+use sheet_text::Listed;
+use sheet_text::Reading;
+use sheet_text::listing::write_listing;
+use sheet_text::read::read_sheet;
+ghost use mathlib.Core.Path.{_≡_};
+ghost use lib.ListN.{set};
+ghost use Rattle.dirmoog_c.specs.Texted.{readNumber, readFirst, readSecond, ReadTold, listedNumber, listedBytes, answerOf};
+ghost use Rattle.sheet_text.specs.Listing.{listedIn};
+
+// The number of a reading.
+fn read_number(reading: Reading) -> usize
+    ensures { λ r. ⌜ r ≡ readNumber reading ⌝ }
+{
+    match reading {
+        Reading::Sheet(_) => 0,
+        Reading::Refused(refusal) => refusal.number,
+    }
+}
+
+// The count of labels, or the place of a refusal.
+fn read_first(reading: Reading) -> usize
+    ensures { λ r. ⌜ r ≡ readFirst reading ⌝ }
+{
+    match reading {
+        Reading::Sheet(counts) => counts.labels,
+        Reading::Refused(refusal) => refusal.place,
+    }
+}
+
+// The count of gaps, or 0 for a refusal.
+fn read_second(reading: Reading) -> usize
+    ensures { λ r. ⌜ r ≡ readSecond reading ⌝ }
+{
+    match reading {
+        Reading::Sheet(counts) => counts.gaps,
+        Reading::Refused(_) => 0,
+    }
+}
+
+// Reads a text into lent lists. Gives 0 or the refusal's number; out is told the counts of labels and gaps, or the place and 0.
+#[no_mangle]
+pub extern "C" fn dirmoog_read(
+    text: &[u8],
+    wanted: &mut [i64],
+    weight: &mut [i64],
+    left: &mut [usize],
+    right: &mut [usize],
+    distance: &mut [i64],
+    out: &mut [usize],
+) -> usize
+    ensures { λ r. ⌜ ReadTold (now (text .entry)) (record { wanted = now (wanted .entry); weight = now (weight .entry); left = now (left .entry); right = now (right .entry); distance = now (distance .entry) }) (now (out .entry)) r (record { wanted = now (wanted .exit); weight = now (weight .exit); left = now (left .exit); right = now (right .exit); distance = now (distance .exit) }) (now (out .exit)) ⌝ }
+{
+    let reading = read_sheet(text, wanted, weight, left, right, distance);
+    let number = read_number(reading);
+    put(out, 0, read_first(reading));
+    put(out, 1, read_second(reading));
+    number
+}
+
+// The answer of a number and a place: 0 is placed.
+fn answer_of(number: usize, place: usize) -> Answer
+    ensures { λ r. ⌜ r ≡ answerOf number place ⌝ }
+{
+    if number == 0 {
+        return Answer::Placed;
+    }
+    Answer::Refused(Refusal {
+        number,
+        place,
+        ring: 0,
+    })
+}
+
+// The number of a listing.
+fn listed_number(listed: Listed) -> usize
+    ensures { λ r. ⌜ r ≡ listedNumber listed ⌝ }
+{
+    match listed {
+        Listed::Written(_) => 0,
+        Listed::Refused(refusal) => refusal.number,
+    }
+}
+
+// The count of bytes that a listing wrote.
+fn listed_bytes(listed: Listed) -> usize
+    ensures { λ r. ⌜ r ≡ listedBytes listed ⌝ }
+{
+    match listed {
+        Listed::Written(bytes) => bytes,
+        Listed::Refused(_) => 0,
+    }
+}
+
+// Writes the listing of an answer to the front of text. Gives 0 or the refusal's number; out is told the count of bytes, 0 where it is refused.
+#[no_mangle]
+pub extern "C" fn dirmoog_listing(
+    number: usize,
+    place: usize,
+    place_num: &[i64],
+    place_den: &[i64],
+    text: &mut [u8],
+    out: &mut [usize],
+) -> usize
+    ensures { λ r. ⌜ r ≡ listedNumber (listedIn (answerOf number place) (now («place_num» .entry)) (now («place_den» .entry)) (now (text .entry)) .answer) ⌝ }
+    ensures { λ _. ⌜ now (text .exit) ≡ listedIn (answerOf number place) (now («place_num» .entry)) (now («place_den» .entry)) (now (text .entry)) .buffer ⌝ }
+    ensures { λ _. ⌜ now (out .exit) ≡ set (now (out .entry)) 0 (listedBytes (listedIn (answerOf number place) (now («place_num» .entry)) (now («place_den» .entry)) (now (text .entry)) .answer)) ⌝ }
+{
+    let answer = answer_of(number, place);
+    let listed = write_listing(answer, place_num, place_den, text);
+    put(out, 0, listed_bytes(listed));
+    listed_number(listed)
+}

@@ -1,0 +1,133 @@
+/*
+ * Dirmoog: least moves for marker strips. Link with libdirmoog_c.a (x86-64 Linux; needs memcpy and memset alone).
+ *
+ * A list is a pointer and a count of entries. The pointer must be valid for that many entries, aligned, and not NULL even
+ * where the count is 0. A list that is written may overlap no other list of the call. Nothing else is asked: any lengths
+ * and any contents may be lent, and every call returns. The calls keep no state, so threads may call them at once.
+ *
+ * Every call returns 0, or the number of a refusal. A refused call writes nothing but what its comment names.
+ *
+ *   no.  trade's word  met if                                                                               place
+ *    1   crowded       more than 48 labels                                                                  0
+ *    2   over-gapped   more than 192 gaps                                                                   0
+ *    3   ragged        lists that belong together differ in length                                          0
+ *    4   short room    a list that is written is too short                                                  0
+ *    5   off plate     a wanted place outside -200,000 to 200,000                                           label
+ *    6   bad weight    a weight outside 1 to 100                                                            label
+ *    7   stranger      left or right is no label of the sheet                                               gap
+ *    8   bad gap       a distance outside -20,000 to 20,000                                                 gap
+ *    9   ring          no placement meets all gaps                                                          0
+ *   10   bad line      the text breaks a rule                                                               line, from 1
+ *   11   long text     the text is above 16,384 bytes                                                       0
+ *   12   bad fraction  a denominator outside 1 to 4,800, or a numerator beyond 5,472,000,000 either way     0
+ *
+ * The checks run in the order 11, 10, then 1 to 9, each over the whole sheet before the next; the place is the first
+ * offender. Labels and gaps count from 0.
+ */
+#ifndef DIRMOOG_H
+#define DIRMOOG_H
+
+#include <stddef.h>
+#include <stdint.h>
+
+#ifdef __cplusplus
+extern "C" {
+#endif
+
+/*
+ * Lays out a sheet: finds the places that meet every gap, place(left) + distance <= place(right), with the least sum of
+ * weight x (place - wanted)^2. Refused with 1 to 9.
+ *
+ * To read, one entry per label (their count is wanted_len):
+ *   wanted     wanted place, in hundredths of a millimetre
+ *   weight     weight; as many entries
+ * To read, one entry per gap (their count is left_len):
+ *   left       number of the left label
+ *   right      number of the right label; as many entries
+ *   distance   distance; as many entries
+ * To read and write:
+ *   carried    one byte per gap; as many entries. Any bytes may come in, and they never change a place. Lending what the
+ *              last call on a like sheet left here saves work.
+ * To write, with at least as many entries as there are labels or gaps:
+ *   place_num  numerators of the places, one per label
+ *   place_den  denominators of the places, one per label
+ *   mult_num   numerators of the multipliers, one per gap
+ *   mult_den   denominators of the multipliers, one per gap
+ *   ring       room for gap numbers; at least as many entries as there are labels
+ *   out        the answer's place, then the ring's length. Where it has fewer than 2 entries, what fits is written.
+ *
+ * 0, placed: the first entries of place_num, place_den, mult_num and mult_den hold fractions in lowest terms with a
+ *   denominator above zero, and carried holds 1 for marked gaps, else 0. Entries beyond stay, and so does ring. out is 0, 0.
+ * 9, ring: the first entries of ring, out[1] many, hold gap numbers such that each gap's right label is the next one's
+ *   left, the last joins the first, no label is a left label twice, and the distances sum above zero. out is 0 and the
+ *   ring's length. All else stays.
+ * 1 to 8: out is the place and 0. All else stays.
+ */
+uint64_t dirmoog_layout(const int64_t *wanted, size_t wanted_len,
+                        const int64_t *weight, size_t weight_len,
+                        const uint64_t *left, size_t left_len,
+                        const uint64_t *right, size_t right_len,
+                        const int64_t *distance, size_t distance_len,
+                        uint8_t *carried, size_t carried_len,
+                        int64_t *place_num, size_t place_num_len,
+                        int64_t *place_den, size_t place_den_len,
+                        int64_t *mult_num, size_t mult_num_len,
+                        int64_t *mult_den, size_t mult_den_len,
+                        uint64_t *ring, size_t ring_len,
+                        uint64_t *out, size_t out_len);
+
+/*
+ * Rounds num/den to the nearest whole number, halves away from zero. Refused with 12, whose place is 0.
+ *
+ *   out        the whole number, or 0 where it is refused; nothing where out_len is 0. Entries beyond the first stay.
+ */
+uint64_t dirmoog_round(int64_t num, int64_t den, int64_t *out, size_t out_len);
+
+/*
+ * Reads a sheet's text into lists. Refused with 11, 10, 1, 2 or 4.
+ *
+ * The text is comma-separated records, each ended by CRLF or LF; the last end may lack. A record has four fields: "label",
+ * its number, wanted place, weight; or "gap", left, right, distance. A number is 1 to 9 digits, with a minus sign in front
+ * only in a wanted place or a distance. A blank weight is 1. Label numbers run 0, 1, 2; gaps are numbered in their order.
+ *
+ *   text       the bytes of the text; none are a sheet of no labels
+ *   wanted, weight            one entry per label is written
+ *   left, right, distance     one entry per gap is written. 48 and 192 entries are room for every sheet.
+ *   out        0: the count of labels, then the count of gaps. Refused: the place, then 0. Where it has fewer than 2
+ *              entries, what fits is written.
+ *
+ * Entries beyond stay. Where it is refused, out alone is written. What is read may break rules 5 to 9, which
+ * dirmoog_layout checks.
+ */
+uint64_t dirmoog_read(const uint8_t *text, size_t text_len,
+                      int64_t *wanted, size_t wanted_len,
+                      int64_t *weight, size_t weight_len,
+                      uint64_t *left, size_t left_len,
+                      uint64_t *right, size_t right_len,
+                      int64_t *distance, size_t distance_len,
+                      uint64_t *out, size_t out_len);
+
+/*
+ * Writes the listing of an answer: "place", label, numerator, denominator, whole unit for each label, or "refused", number,
+ * place; every record ended by CRLF. Refused with 1 (more than 48 labels), 3 or 4, all at place 0.
+ *
+ *   number     the answer's number: 0 for placed
+ *   place      the answer's place; without effect where number is 0
+ *   place_num  numerators of the places, one per label (their count is place_num_len); without effect where number is not 0
+ *   place_den  denominators of the places; as many entries. A fraction that dirmoog_round refuses has whole unit 0.
+ *   text       the listing is written to its front. 2,048 bytes are room for every listing of dirmoog_layout's places.
+ *   out        the count of bytes written, or 0 where it is refused; nothing where out_len is 0. Entries beyond stay.
+ *
+ * The bytes beyond stay. Where it is refused, out alone is written.
+ */
+uint64_t dirmoog_listing(uint64_t number, uint64_t place,
+                         const int64_t *place_num, size_t place_num_len,
+                         const int64_t *place_den, size_t place_den_len,
+                         uint8_t *text, size_t text_len,
+                         uint64_t *out, size_t out_len);
+
+#ifdef __cplusplus
+}
+#endif
+
+#endif

@@ -1,0 +1,193 @@
+//! Least moves for marker strips: a safe interface to the proved library `libdirmoog_c.a`.
+//!
+//! A sheet has labels, each with a wanted place and a weight, and gaps, each of which asks that its
+//! right label stand at least its distance to the right of its left label. [`lay_out`] finds the
+//! placement with the least sum of weight times squared move, in exact fractions, or refuses the
+//! sheet. Any slices may be lent: nothing panics.
+//!
+//! ```
+//! use dirmoog::{lay_out, round, Answer, Room, Rounded, Sheet};
+//!
+//! let sheet = Sheet {
+//!     wanted: &[0, 3],
+//!     weight: &[1, 1],
+//!     left: &[0],
+//!     right: &[1],
+//!     distance: &[6],
+//! };
+//! let (mut place_num, mut place_den) = ([0; 2], [0; 2]);
+//! let (mut mult_num, mut mult_den) = ([0; 1], [0; 1]);
+//! let mut room = Room {
+//!     carried: &mut [0],
+//!     place_num: &mut place_num,
+//!     place_den: &mut place_den,
+//!     mult_num: &mut mult_num,
+//!     mult_den: &mut mult_den,
+//!     ring: &mut [0; 2],
+//! };
+//! assert_eq!(lay_out(&sheet, &mut room), Answer::Placed);
+//! assert_eq!((place_num, place_den), ([-3, 9], [2, 2]));
+//! assert_eq!((mult_num, mult_den), ([3], [1]));
+//! assert_eq!(round(place_num[0], place_den[0]), Rounded::Whole(-2));
+//! ```
+
+pub mod raw;
+mod text;
+
+pub use text::{read_sheet, write_listing, Counts, Listed, Lists, Reading};
+
+/// A refusal: its number in the refusal table, its place (a label, a gap or a line, else 0) and,
+/// with 9, the ring's length.
+#[derive(Clone, Copy, Debug, PartialEq, Eq)]
+pub struct Refusal {
+    pub number: u64,
+    pub place: u64,
+    pub ring: u64,
+}
+
+/// The answer of a layout.
+#[derive(Clone, Copy, Debug, PartialEq, Eq)]
+pub enum Answer {
+    Placed,
+    Refused(Refusal),
+}
+
+/// The answer of a rounding.
+#[derive(Clone, Copy, Debug, PartialEq, Eq)]
+pub enum Rounded {
+    Whole(i64),
+    Refused(Refusal),
+}
+
+/// What a station lends to read: one entry per label, then one per gap.
+#[derive(Clone, Copy, Debug)]
+pub struct Sheet<'a> {
+    pub wanted: &'a [i64],
+    pub weight: &'a [i64],
+    pub left: &'a [u64],
+    pub right: &'a [u64],
+    pub distance: &'a [i64],
+}
+
+/// What a station lends to write, and the carried record, which is read too: its bytes may be anything.
+#[derive(Debug)]
+pub struct Room<'a> {
+    pub carried: &'a mut [u8],
+    pub place_num: &'a mut [i64],
+    pub place_den: &'a mut [i64],
+    pub mult_num: &'a mut [i64],
+    pub mult_den: &'a mut [i64],
+    pub ring: &'a mut [u64],
+}
+
+/// Lays out a sheet.
+///
+/// Placed: the first entries of the room hold places, multipliers and marks; the rest of it and the
+/// ring buffer stay. Refused: nothing is written but, with 9, a ring's gap numbers in the front of
+/// the ring buffer ([`ring_part`]).
+///
+/// ```
+/// use dirmoog::{lay_out, ring_part, Answer, Refusal, Room, Sheet};
+///
+/// // Label 1 stands at least 5 right of label 0, and at most 4: no placement.
+/// let sheet = Sheet {
+///     wanted: &[0, 0],
+///     weight: &[1, 1],
+///     left: &[0, 1],
+///     right: &[1, 0],
+///     distance: &[5, -4],
+/// };
+/// let mut ring = [7; 3];
+/// let mut room = Room {
+///     carried: &mut [0; 2],
+///     place_num: &mut [0; 2],
+///     place_den: &mut [0; 2],
+///     mult_num: &mut [0; 2],
+///     mult_den: &mut [0; 2],
+///     ring: &mut ring,
+/// };
+/// let answer = lay_out(&sheet, &mut room);
+/// assert_eq!(answer, Answer::Refused(Refusal { number: 9, place: 0, ring: 2 }));
+/// let mut gaps = ring_part(&ring, 2).to_vec();
+/// gaps.sort();
+/// assert_eq!(gaps, [0, 1]);
+/// assert_eq!(ring[2], 7);
+/// ```
+pub fn lay_out(sheet: &Sheet<'_>, room: &mut Room<'_>) -> Answer {
+    let mut out = [0; 2];
+    // SAFETY: every pointer and length is that of a slice, and the slices that are written are borrowed for writing.
+    let number = unsafe {
+        raw::dirmoog_layout(
+            sheet.wanted.as_ptr(),
+            sheet.wanted.len(),
+            sheet.weight.as_ptr(),
+            sheet.weight.len(),
+            sheet.left.as_ptr(),
+            sheet.left.len(),
+            sheet.right.as_ptr(),
+            sheet.right.len(),
+            sheet.distance.as_ptr(),
+            sheet.distance.len(),
+            room.carried.as_mut_ptr(),
+            room.carried.len(),
+            room.place_num.as_mut_ptr(),
+            room.place_num.len(),
+            room.place_den.as_mut_ptr(),
+            room.place_den.len(),
+            room.mult_num.as_mut_ptr(),
+            room.mult_num.len(),
+            room.mult_den.as_mut_ptr(),
+            room.mult_den.len(),
+            room.ring.as_mut_ptr(),
+            room.ring.len(),
+            out.as_mut_ptr(),
+            out.len(),
+        )
+    };
+    match number {
+        0 => Answer::Placed,
+        _ => Answer::Refused(refusal(number, out)),
+    }
+}
+
+/// The refusal of a number, at the place and with the ring length that were told.
+fn refusal(number: u64, out: [u64; 2]) -> Refusal {
+    Refusal {
+        number,
+        place: out[0],
+        ring: out[1],
+    }
+}
+
+/// The front part of a ring buffer that holds a ring's gap numbers; for a length beyond the buffer,
+/// the empty part.
+///
+/// ```
+/// assert_eq!(dirmoog::ring_part(&[4, 1, 0], 2), [4, 1]);
+/// assert_eq!(dirmoog::ring_part(&[4, 1, 0], 4), []);
+/// ```
+pub fn ring_part(ring: &[u64], length: u64) -> &[u64] {
+    usize::try_from(length)
+        .ok()
+        .and_then(|length| ring.get(..length))
+        .unwrap_or(&[])
+}
+
+/// Rounds a fraction to the nearest whole number, halves away from zero, or refuses it with 12.
+///
+/// ```
+/// use dirmoog::{round, Refusal, Rounded};
+///
+/// assert_eq!(round(-3, 2), Rounded::Whole(-2));
+/// assert_eq!(round(9, 2), Rounded::Whole(5));
+/// assert_eq!(round(1, 0), Rounded::Refused(Refusal { number: 12, place: 0, ring: 0 }));
+/// ```
+pub fn round(num: i64, den: i64) -> Rounded {
+    let mut out = [0];
+    // SAFETY: the pointer and the length are those of a slice that is borrowed for writing.
+    let number = unsafe { raw::dirmoog_round(num, den, out.as_mut_ptr(), out.len()) };
+    match number {
+        0 => Rounded::Whole(out[0]),
+        _ => Rounded::Refused(refusal(number, [0, 0])),
+    }
+}

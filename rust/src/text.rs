@@ -1,0 +1,125 @@
+//! The sheet text and the listing.
+use crate::{raw, refusal, Answer, Refusal};
+
+/// How many labels and gaps a text has.
+#[derive(Clone, Copy, Debug, PartialEq, Eq)]
+pub struct Counts {
+    pub labels: u64,
+    pub gaps: u64,
+}
+
+/// The answer of the reader.
+#[derive(Clone, Copy, Debug, PartialEq, Eq)]
+pub enum Reading {
+    Sheet(Counts),
+    Refused(Refusal),
+}
+
+/// The answer of the listing: how many bytes were written, or a refusal.
+#[derive(Clone, Copy, Debug, PartialEq, Eq)]
+pub enum Listed {
+    Written(u64),
+    Refused(Refusal),
+}
+
+/// The lists that a text is read into; 48 entries per label list and 192 per gap list are enough
+/// for every sheet.
+#[derive(Debug)]
+pub struct Lists<'a> {
+    pub wanted: &'a mut [i64],
+    pub weight: &'a mut [i64],
+    pub left: &'a mut [u64],
+    pub right: &'a mut [u64],
+    pub distance: &'a mut [i64],
+}
+
+/// Reads a sheet's text into the front of lent lists. The entries beyond stay; a refused text writes nothing.
+///
+/// ```
+/// use dirmoog::{read_sheet, Counts, Lists, Reading};
+///
+/// let (mut wanted, mut weight) = ([0; 48], [0; 48]);
+/// let (mut left, mut right, mut distance) = ([0; 192], [0; 192], [0; 192]);
+/// let mut lists = Lists {
+///     wanted: &mut wanted,
+///     weight: &mut weight,
+///     left: &mut left,
+///     right: &mut right,
+///     distance: &mut distance,
+/// };
+/// let reading = read_sheet(b"label,0,0,1\r\nlabel,1,3,\r\ngap,0,1,6\r\n", &mut lists);
+/// assert_eq!(reading, Reading::Sheet(Counts { labels: 2, gaps: 1 }));
+/// assert_eq!((&wanted[..2], &weight[..2]), (&[0, 3][..], &[1, 1][..]));
+/// assert_eq!((left[0], right[0], distance[0]), (0, 1, 6));
+/// ```
+pub fn read_sheet(text: &[u8], lists: &mut Lists<'_>) -> Reading {
+    let mut out = [0; 2];
+    // SAFETY: every pointer and length is that of a slice, and the slices that are written are borrowed for writing.
+    let number = unsafe {
+        raw::dirmoog_read(
+            text.as_ptr(),
+            text.len(),
+            lists.wanted.as_mut_ptr(),
+            lists.wanted.len(),
+            lists.weight.as_mut_ptr(),
+            lists.weight.len(),
+            lists.left.as_mut_ptr(),
+            lists.left.len(),
+            lists.right.as_mut_ptr(),
+            lists.right.len(),
+            lists.distance.as_mut_ptr(),
+            lists.distance.len(),
+            out.as_mut_ptr(),
+            out.len(),
+        )
+    };
+    match number {
+        0 => Reading::Sheet(Counts {
+            labels: out[0],
+            gaps: out[1],
+        }),
+        _ => Reading::Refused(refusal(number, out)),
+    }
+}
+
+/// Writes the listing of an answer to the front of a buffer: a record per label, or the refusal's.
+///
+/// ```
+/// use dirmoog::{write_listing, Answer, Listed};
+///
+/// let mut text = [0; 64];
+/// let listed = write_listing(Answer::Placed, &[-3, 9], &[2, 2], &mut text);
+/// assert_eq!(listed, Listed::Written(32));
+/// assert_eq!(&text[..32], b"place,0,-3,2,-2\r\nplace,1,9,2,5\r\n");
+/// ```
+pub fn write_listing(
+    answer: Answer,
+    place_num: &[i64],
+    place_den: &[i64],
+    text: &mut [u8],
+) -> Listed {
+    let (number, place) = match answer {
+        Answer::Placed => (0, 0),
+        Answer::Refused(refusal) => (refusal.number, refusal.place),
+    };
+    let mut out = [0; 2];
+    // SAFETY: every pointer and length is that of a slice, and the slices that are written are borrowed for writing.
+    let listed = unsafe {
+        raw::dirmoog_listing(
+            number,
+            place,
+            place_num.as_ptr(),
+            place_num.len(),
+            place_den.as_ptr(),
+            place_den.len(),
+            text.as_mut_ptr(),
+            text.len(),
+            out.as_mut_ptr(),
+            out.len(),
+        )
+    };
+    match listed {
+        0 => Listed::Written(out[0]),
+        _ => Listed::Refused(refusal(listed, [0, 0])),
+    }
+}

@@ -1,0 +1,27 @@
+/* Reads a sheet's text, lays the sheet out and prints the listing, as the station program does. */
+#include <dirmoog.h>
+#include <stdio.h>
+
+enum { LABELS = 48, GAPS = 192, TEXT = 16385, LISTING = 2048 };
+
+int main(void)
+{
+    static uint8_t text[TEXT], carried[GAPS], listing[LISTING];
+    static int64_t wanted[LABELS], weight[LABELS], distance[GAPS];
+    static uint64_t left[GAPS], right[GAPS], ring[LABELS];
+    static int64_t place_num[LABELS], place_den[LABELS], mult_num[GAPS], mult_den[GAPS];
+    uint64_t told[2] = {0, 0}, labels = 0, number, bytes;
+    size_t size = fread(text, 1, TEXT, stdin);
+
+    number = dirmoog_read(text, size, wanted, LABELS, weight, LABELS, left, GAPS, right, GAPS, distance, GAPS, told, 2);
+    if (number == 0) {
+        uint64_t gaps = told[1];
+        labels = told[0];
+        number = dirmoog_layout(wanted, labels, weight, labels, left, gaps, right, gaps, distance, gaps,
+                                carried, gaps, place_num, LABELS, place_den, LABELS, mult_num, GAPS, mult_den, GAPS,
+                                ring, LABELS, told, 2);
+    }
+    if (dirmoog_listing(number, told[0], place_num, labels, place_den, labels, listing, LISTING, &bytes, 1) != 0)
+        return 1;
+    return fwrite(listing, 1, bytes, stdout) == bytes ? 0 : 1;
+}

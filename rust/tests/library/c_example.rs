@@ -1,0 +1,61 @@
+//! The example in C is compiled with the header and the static library, and run on texts.
+use std::io::Write;
+use std::path::{Path, PathBuf};
+use std::process::{Command, Stdio};
+
+/// Compiles the example to a file beside this test.
+fn compile() -> PathBuf {
+    let package = Path::new(env!("CARGO_MANIFEST_DIR"));
+    let test = std::env::current_exe().expect("the test's own path");
+    let program = test.with_file_name("dirmoog_c_example");
+    let compiled = Command::new("cc")
+        .args([
+            "-std=c99",
+            "-O1",
+            "-Wall",
+            "-Wextra",
+            "-Werror",
+            "-pedantic",
+            "-I",
+        ])
+        .arg(package.join("../include"))
+        .arg(package.join("tests/c_example.c"))
+        .arg(Path::new(env!("DIRMOOG_LIB")).join("libdirmoog_c.a"))
+        .arg("-o")
+        .arg(&program)
+        .status()
+        .expect("a C compiler, cc");
+    assert!(compiled.success());
+    program
+}
+
+/// What the example prints for a text.
+fn printed(program: &Path, text: &[u8]) -> String {
+    let mut child = Command::new(program)
+        .stdin(Stdio::piped())
+        .stdout(Stdio::piped())
+        .spawn()
+        .expect("the example");
+    let mut input = child.stdin.take().expect("its input");
+    input.write_all(text).expect("a text that is read whole");
+    drop(input);
+    let done = child.wait_with_output().expect("its output");
+    assert!(done.status.success());
+    String::from_utf8(done.stdout).expect("a listing")
+}
+
+#[test]
+fn runs() {
+    let program = compile();
+    let run = b"label,0,0,1\r\nlabel,1,3,1\r\ngap,0,1,6\r\n";
+    assert_eq!(
+        printed(&program, run),
+        "place,0,-3,2,-2\r\nplace,1,9,2,5\r\n"
+    );
+    let ring = b"label,0,0,\nlabel,1,0,\ngap,0,1,5\ngap,1,0,-4\n";
+    assert_eq!(printed(&program, ring), "refused,9,0\r\n");
+    assert_eq!(printed(&program, b"label,0,0,0"), "refused,6,0\r\n");
+    assert_eq!(printed(&program, b"label,0,0,1\n\n"), "refused,10,2\r\n");
+    assert_eq!(printed(&program, &[b'\n'; 16_385]), "refused,11,0\r\n");
+    assert_eq!(printed(&program, b""), "");
+}

@@ -1,0 +1,284 @@
+//! Sheets of many kinds, and what breaks them.
+use crate::call::Lent;
+use crate::random::Random;
+use crate::sheet::Sheet;
+use std::ops::RangeInclusive;
+
+/// The kinds of sheets. All keep to the limits, and some have a ring.
+#[derive(Clone, Copy, Debug)]
+pub enum Kind {
+    Feasible,
+    AnyDistances,
+    Chain,
+    Dense,
+    Equalities,
+    Duplicates,
+    SelfGaps,
+    Rings,
+    Limits,
+}
+
+pub const KINDS: [Kind; 9] = [
+    Kind::Feasible,
+    Kind::AnyDistances,
+    Kind::Chain,
+    Kind::Dense,
+    Kind::Equalities,
+    Kind::Duplicates,
+    Kind::SelfGaps,
+    Kind::Rings,
+    Kind::Limits,
+];
+
+/// A sheet of a kind with so many labels.
+pub fn sheet(random: &mut Random, kind: Kind, labels: RangeInclusive<i64>) -> Sheet {
+    let labels = random.between(*labels.start(), *labels.end()) as usize;
+    let mut sheet = labels_only(random, labels);
+    if labels == 0 {
+        return sheet;
+    }
+    // a placement that the gaps are made to allow, where they are
+    let spread = random.pick(&[5, 100, 5_000, 60_000]);
+    let hidden: Vec<i64> = (0..labels).map(|_| random.between(0, spread)).collect();
+    let gaps = random.below(1 + 192.min(4 * labels));
+    match kind {
+        Kind::Feasible => allowed_gaps(random, &mut sheet, &hidden, gaps),
+        Kind::AnyDistances => any_gaps(random, &mut sheet, gaps.min(labels + 2)),
+        Kind::Chain => chain(random, &mut sheet),
+        Kind::Dense => dense(random, &mut sheet, &hidden),
+        Kind::Equalities => equalities(random, &mut sheet, &hidden, gaps / 2),
+        Kind::Duplicates => duplicates(random, &mut sheet, &hidden, gaps),
+        Kind::SelfGaps => self_gaps(random, &mut sheet, &hidden, gaps),
+        Kind::Rings => ring(random, &mut sheet, &hidden, gaps),
+        Kind::Limits => limits(random, &mut sheet),
+    }
+    sheet
+}
+
+/// Labels whose wants and weights are of one of several sizes.
+pub fn labels_only(random: &mut Random, labels: usize) -> Sheet {
+    let mut sheet = Sheet::default();
+    let (want, weight) = (
+        random.pick(&[3, 50, 3_000, 200_000]),
+        random.pick(&[1, 3, 100]),
+    );
+    for _ in 0..labels {
+        sheet.label(random.between(-want, want), random.between(1, weight));
+    }
+    sheet
+}
+
+/// A gap between any two labels that the hidden placement meets, often just so.
+fn allowed_gap(random: &mut Random, sheet: &mut Sheet, hidden: &[i64]) {
+    let (left, right) = (random.below(hidden.len()), random.below(hidden.len()));
+    let slack = random.pick(&[0, 0, 1, 40, 2_000]);
+    let distance = hidden[right] - hidden[left] - random.between(0, slack);
+    if distance >= -20_000 {
+        sheet.gap(left, right, distance.min(20_000));
+    }
+}
+
+fn allowed_gaps(random: &mut Random, sheet: &mut Sheet, hidden: &[i64], gaps: usize) {
+    for _ in 0..gaps {
+        allowed_gap(random, sheet, hidden);
+    }
+}
+
+/// Gaps of any distances, of one size.
+fn any_gaps(random: &mut Random, sheet: &mut Sheet, gaps: usize) {
+    let size = random.pick(&[4, 300, 20_000]);
+    for _ in 0..gaps {
+        let (left, right) = (random.below(sheet.labels()), random.below(sheet.labels()));
+        let distance = random.between(-size, size / 4);
+        sheet.gap(left, right, distance);
+    }
+}
+
+/// Each label with the next, and some with one further on.
+fn chain(random: &mut Random, sheet: &mut Sheet) {
+    let size = random.pick(&[4, 300, 20_000]);
+    for right in 1..sheet.labels() {
+        sheet.gap(right - 1, right, random.between(0, size));
+        if right > 1 && random.once_in(3) {
+            sheet.gap(right - 2, right, random.between(0, size));
+        }
+    }
+}
+
+/// Every pair of labels near each other in the hidden order, as far as gaps go.
+fn dense(random: &mut Random, sheet: &mut Sheet, hidden: &[i64]) {
+    let mut order: Vec<usize> = (0..hidden.len()).collect();
+    order.sort_by_key(|&i| (hidden[i], i));
+    let size = random.pick(&[4, 300, 5_000]);
+    for apart in 1..order.len() {
+        for pair in order.windows(apart + 1) {
+            if sheet.gaps() < 192 {
+                let distance = random.between(0, size) * apart as i64;
+                sheet.gap(pair[0], pair[apart], distance.min(20_000));
+            }
+        }
+    }
+}
+
+/// Pairs of opposite gaps that the hidden placement meets, and some others.
+fn equalities(random: &mut Random, sheet: &mut Sheet, hidden: &[i64], pairs: usize) {
+    for _ in 0..pairs.min(90) {
+        let (left, right) = (random.below(hidden.len()), random.below(hidden.len()));
+        let distance = hidden[right] - hidden[left];
+        if distance.abs() <= 20_000 {
+            sheet.gap(left, right, distance);
+            sheet.gap(right, left, -distance);
+        }
+    }
+    allowed_gaps(random, sheet, hidden, pairs.min(12));
+}
+
+/// Gaps that stand twice, as they are or with another distance.
+fn duplicates(random: &mut Random, sheet: &mut Sheet, hidden: &[i64], gaps: usize) {
+    allowed_gaps(random, sheet, hidden, gaps / 2);
+    for _ in 0..sheet.gaps() {
+        let again = random.below(sheet.gaps());
+        let (left, right) = (sheet.left[again] as usize, sheet.right[again] as usize);
+        let less = random.pick(&[0, 0, 0, 1, 17]);
+        let distance = (sheet.distance[again] - less).max(-20_000);
+        sheet.gap(left, right, distance);
+    }
+}
+
+/// Gaps of a label to itself among others; now and then one that cannot hold.
+fn self_gaps(random: &mut Random, sheet: &mut Sheet, hidden: &[i64], gaps: usize) {
+    for _ in 0..gaps {
+        if random.once_in(3) {
+            let label = random.below(hidden.len());
+            let most = if random.once_in(40) { 3 } else { 0 };
+            sheet.gap(label, label, random.between(-5, most));
+        } else {
+            allowed_gap(random, sheet, hidden);
+        }
+    }
+}
+
+/// A ring through some labels whose distances sum to about zero, among gaps that can hold.
+fn ring(random: &mut Random, sheet: &mut Sheet, hidden: &[i64], gaps: usize) {
+    allowed_gaps(random, sheet, hidden, gaps.min(140));
+    let mut walk: Vec<usize> = (0..hidden.len()).collect();
+    for k in 0..walk.len() {
+        let other = k + random.below(walk.len() - k);
+        walk.swap(k, other);
+    }
+    walk.truncate(1 + random.below(walk.len()));
+    let extra = random.pick(&[-1, 0, 0, 1, 1, 700]);
+    for k in 0..walk.len() {
+        let (left, right) = (walk[k], walk[(k + 1) % walk.len()]);
+        let more = if k == 0 { extra } else { 0 };
+        let distance = hidden[right] - hidden[left] + more;
+        sheet.gap(left, right, distance.clamp(-20_000, 20_000));
+    }
+}
+
+/// Everything at or next to its limit.
+fn limits(random: &mut Random, sheet: &mut Sheet) {
+    for i in 0..sheet.labels() {
+        sheet.wanted[i] = random.pick(&[-200_000, -199_999, 0, 199_999, 200_000]);
+        sheet.weight[i] = random.pick(&[1, 2, 99, 100]);
+    }
+    for right in 1..sheet.labels() {
+        sheet.gap(
+            right - 1,
+            right,
+            random.pick(&[20_000, 20_000, 19_999, -20_000]),
+        );
+    }
+    let more = random.pick(&[0, 0, 10, 192 - sheet.gaps()]);
+    for _ in 0..more.min(192 - sheet.gaps()) {
+        let (a, b) = (random.below(sheet.labels()), random.below(sheet.labels()));
+        let distance = random.pick(&[-20_000, -19_999]);
+        sheet.gap(a.max(b), a.min(b), distance);
+    }
+}
+
+/// Breaks one rule or none: a list too long, uneven or short, or an entry out of its range.
+pub fn damage(random: &mut Random, sheet: &mut Sheet, lent: &mut Lent) {
+    match random.below(12) {
+        0 => too_many(random, sheet, lent),
+        1 => uneven(random, sheet, lent),
+        2 => short(random, lent),
+        _ => out_of_range(random, sheet),
+    }
+}
+
+/// More than 48 labels or 192 gaps, with buffers to match.
+fn too_many(random: &mut Random, sheet: &mut Sheet, lent: &mut Lent) {
+    if random.once_in(2) {
+        while sheet.labels() < 49 + random.below(4) {
+            sheet.label(0, 1);
+        }
+    } else {
+        while sheet.gaps() < 193 + random.below(4) {
+            sheet.gap(0, 0, 0);
+        }
+    }
+    *lent = Lent::arbitrary(random, sheet.labels(), sheet.gaps());
+}
+
+/// A list that belongs to others is longer or shorter by some entries.
+fn uneven(random: &mut Random, sheet: &mut Sheet, lent: &mut Lent) {
+    let change = |random: &mut Random, count: usize| match random.below(3) {
+        0 => 0,
+        1 => count.saturating_sub(1),
+        _ => count + 1 + random.below(200),
+    };
+    match random.below(6) {
+        0 => sheet.wanted.resize(change(random, sheet.wanted.len()), 1),
+        1 => sheet.weight.resize(change(random, sheet.weight.len()), 1),
+        2 => sheet.left.resize(change(random, sheet.left.len()), 0),
+        3 => sheet.right.resize(change(random, sheet.right.len()), 0),
+        4 => sheet
+            .distance
+            .resize(change(random, sheet.distance.len()), 0),
+        _ => lent.carried.resize(change(random, lent.carried.len()), 0),
+    }
+}
+
+/// A buffer that may be too short.
+fn short(random: &mut Random, lent: &mut Lent) {
+    let mut cut = |count: usize| random.below(count + 1);
+    match cut(4) {
+        0 => lent.place_num.truncate(cut(lent.place_num.len())),
+        1 => lent.place_den.truncate(cut(lent.place_den.len())),
+        2 => lent.mult_num.truncate(cut(lent.mult_num.len())),
+        3 => lent.mult_den.truncate(cut(lent.mult_den.len())),
+        _ => lent.ring.truncate(cut(lent.ring.len())),
+    }
+}
+
+/// An entry at, or just beyond, its limit or far from it.
+fn out_of_range(random: &mut Random, sheet: &mut Sheet) {
+    let (label, labels) = (random.below(sheet.labels().max(1)), sheet.labels() as u64);
+    let gap = random.below(sheet.gaps().max(1));
+    let far = random.pick(&[i64::MIN, i64::MAX, i64::MIN + 1]);
+    let stranger = random.pick(&[
+        labels,
+        labels + 1,
+        u64::MAX,
+        1 << 63,
+        labels.wrapping_sub(1),
+    ]);
+    let place = random.pick(&[-200_001, -200_000, 200_000, 200_001, far]);
+    let weight = random.pick(&[0, 1, 100, 101, -1, far]);
+    let distance = random.pick(&[-20_001, -20_000, 20_001, far]);
+    match random.below(5) {
+        0 => put(&mut sheet.wanted, label, place),
+        1 => put(&mut sheet.weight, label, weight),
+        2 => put(&mut sheet.left, gap, stranger),
+        3 => put(&mut sheet.right, gap, stranger),
+        _ => put(&mut sheet.distance, gap, distance),
+    }
+}
+
+/// Sets an entry, if the list has it.
+fn put<T>(list: &mut [T], at: usize, entry: T) {
+    if let Some(old) = list.get_mut(at) {
+        *old = entry;
+    }
+}

@@ -1,0 +1,94 @@
+//! Laws of pairs of calls: the largest move, and the carried record, which never changes a place.
+use crate::call::Lent;
+use crate::fraction::{Fraction, ZERO};
+use crate::generate::{labels_only, sheet, KINDS};
+use crate::generated::Case;
+use crate::random::Random;
+use crate::sheet::Sheet;
+use dirmoog::Answer;
+
+/// The places of a sheet, from any buffers, if it is accepted.
+fn places(random: &mut Random, sheet: &Sheet) -> Option<Vec<Fraction>> {
+    let mut lent = Lent::arbitrary(random, sheet.labels(), sheet.gaps());
+    let answer = lent.call(sheet);
+    (answer == Answer::Placed).then(|| lent.places(sheet.labels()))
+}
+
+/// The largest difference, without sign.
+fn largest(one: &[Fraction], other: &[Fraction]) -> Fraction {
+    one.iter()
+        .zip(other)
+        .map(|(&a, &b)| (a - b).magnitude())
+        .fold(ZERO, Fraction::max)
+}
+
+/// Other wants for the same weights and gaps: all of them, or one a little.
+fn other_wants(random: &mut Random, sheet: &Sheet) -> Sheet {
+    let mut other = sheet.clone();
+    if random.once_in(2) {
+        other.wanted = labels_only(random, sheet.labels()).wanted;
+    } else {
+        let label = random.below(sheet.labels());
+        let moved = other.wanted[label] + random.between(-9, 9);
+        other.wanted[label] = moved.clamp(-200_000, 200_000);
+    }
+    other
+}
+
+fn wants(sheet: &Sheet) -> Vec<Fraction> {
+    sheet.wanted.iter().map(|&d| Fraction::whole(d)).collect()
+}
+
+/// Whether the pair was accepted; then no place moved further than the want that moved furthest.
+fn largest_move_holds(seed: u64) -> bool {
+    let _case = Case(seed);
+    let mut random = Random::new(seed);
+    let kind = random.pick(&KINDS);
+    let most = random.pick(&[6, 12, 12, 48]);
+    let first = sheet(&mut random, kind, 1..=most);
+    let second = other_wants(&mut random, &first);
+    let pair = (places(&mut random, &first), places(&mut random, &second));
+    let (Some(one), Some(other)) = pair else {
+        assert_eq!(pair, (None, None), "gaps alone decide on 9");
+        return false;
+    };
+    assert!(largest(&one, &other) <= largest(&wants(&first), &wants(&second)));
+    true
+}
+
+#[test]
+fn largest_move() {
+    let accepted = (0..12_000)
+        .filter(|case| largest_move_holds(10_000_000 + case))
+        .count();
+    println!("largest move: {accepted} accepted pairs");
+    assert!(accepted > 8_000);
+}
+
+/// Calls with several carried records: zeros, ones, the outgoing record of the call before, and any bytes.
+fn same_for_any_record(seed: u64) {
+    let _case = Case(seed);
+    let mut random = Random::new(seed);
+    let kind = random.pick(&KINDS);
+    let sheet = sheet(&mut random, kind, 0..=48);
+    let (labels, gaps) = (sheet.labels(), sheet.gaps());
+    let mut lent = Lent::zeros(labels, gaps);
+    let answer = lent.call(&sheet);
+    let first = lent.clone();
+    for round in 0..4 {
+        match round {
+            0 => (),
+            1 => lent.carried.fill(1),
+            _ => lent = Lent::arbitrary(&mut random, labels, gaps),
+        }
+        let again = lent.call(&sheet);
+        let refused = answer != Answer::Placed;
+        assert_eq!(again == Answer::Placed, !refused);
+        assert!(refused || lent.places(labels) == first.places(labels));
+    }
+}
+
+#[test]
+fn any_carried_record() {
+    (0..4_000).for_each(|case| same_for_any_record(11_000_000 + case));
+}

@@ -1,0 +1,22 @@
+//! The library beside parts that were written apart from it, from document 01: a solver of another
+//! method, the refusal table, a reader of the text and a writer of the listing.
+
+// the parts
+mod call;
+mod conditions;
+mod flow;
+mod fraction;
+mod generate;
+mod random;
+mod refusals;
+mod sheet;
+mod solver;
+
+// the tests
+mod bench;
+mod c_example;
+mod generated;
+mod laws;
+mod raw_calls;
+mod rounding;
+mod text;

@@ -1,0 +1,135 @@
+//! Lists for the answer that are shorter or longer than needed: what fits is told, and the entries beyond stay.
+use dirmoog::raw;
+
+/// A sheet of two labels and two gaps with a distance that decides how it comes out.
+fn layout(distance: i64, out: &mut [u64]) -> u64 {
+    let (wanted, weight, left, right) = ([0i64; 2], [1i64; 2], [0u64, 1], [1u64, 0]);
+    let distance = [5, distance];
+    let (mut carried, mut ring) = ([0u8; 2], [0u64; 2]);
+    let mut room = [[0i64; 2]; 4];
+    let [place_num, place_den, mult_num, mult_den] = &mut room;
+    // SAFETY: each pointer is that of a list of the length given.
+    unsafe {
+        raw::dirmoog_layout(
+            wanted.as_ptr(),
+            2,
+            weight.as_ptr(),
+            2,
+            left.as_ptr(),
+            2,
+            right.as_ptr(),
+            2,
+            distance.as_ptr(),
+            2,
+            carried.as_mut_ptr(),
+            2,
+            place_num.as_mut_ptr(),
+            2,
+            place_den.as_mut_ptr(),
+            2,
+            mult_num.as_mut_ptr(),
+            2,
+            mult_den.as_mut_ptr(),
+            2,
+            ring.as_mut_ptr(),
+            2,
+            out.as_mut_ptr(),
+            out.len(),
+        )
+    }
+}
+
+/// What a layout tells in a list of so many entries, each of which was 77.
+fn told(distance: i64, entries: usize) -> (u64, Vec<u64>) {
+    let mut out = vec![77; entries];
+    (layout(distance, &mut out), out)
+}
+
+#[test]
+fn layout_tells_what_fits() {
+    // placed; a ring of both gaps; a bad gap at 1
+    for (distance, number, place, ring) in [(-5, 0, 0, 0), (-4, 9, 0, 2), (20_001, 8, 1, 0)] {
+        assert_eq!(told(distance, 0), (number, vec![]));
+        assert_eq!(told(distance, 1), (number, vec![place]));
+        assert_eq!(told(distance, 2), (number, vec![place, ring]));
+        assert_eq!(told(distance, 4), (number, vec![place, ring, 77, 77]));
+    }
+}
+
+#[test]
+fn round_tells_what_fits() {
+    for (num, den, number, whole) in [(-3, 2, 0, -2), (1, 0, 12, 0)] {
+        for entries in 0..3 {
+            let mut out = vec![77; entries];
+            let mut expected = out.clone();
+            expected.iter_mut().take(1).for_each(|first| *first = whole);
+            // SAFETY: the pointer is that of a list of the length given.
+            let answer = unsafe { raw::dirmoog_round(num, den, out.as_mut_ptr(), entries) };
+            assert_eq!((answer, out), (number, expected));
+        }
+    }
+}
+
+/// Reads a text into lists of one entry each.
+fn read(text: &[u8], out: &mut [u64]) -> u64 {
+    let (mut labels, mut ends, mut distance) = ([[0i64; 1]; 2], [[0u64; 1]; 2], [0i64; 1]);
+    let ([wanted, weight], [left, right]) = (&mut labels, &mut ends);
+    // SAFETY: each pointer is that of a list of the length given.
+    unsafe {
+        raw::dirmoog_read(
+            text.as_ptr(),
+            text.len(),
+            wanted.as_mut_ptr(),
+            1,
+            weight.as_mut_ptr(),
+            1,
+            left.as_mut_ptr(),
+            1,
+            right.as_mut_ptr(),
+            1,
+            distance.as_mut_ptr(),
+            1,
+            out.as_mut_ptr(),
+            out.len(),
+        )
+    }
+}
+
+#[test]
+fn read_tells_what_fits() {
+    let sheet = (&b"label,0,7,\ngap,0,0,0\n"[..], 0, [1, 1]);
+    let bad_line = (&b"gap,0,0,0\ngap,0,0\n"[..], 10, [2, 0]);
+    for (text, number, told) in [sheet, bad_line, (&b""[..], 0, [0, 0])] {
+        for entries in 0..4 {
+            let mut out = vec![77; entries];
+            let mut expected = out.clone();
+            expected.iter_mut().zip(told).for_each(|(e, t)| *e = t);
+            assert_eq!((read(text, &mut out), out), (number, expected));
+        }
+    }
+}
+
+#[test]
+fn listing_tells_what_fits() {
+    let (nums, dens) = ([1i64], [2i64]);
+    // placed whatever the place is, a refusal, and a buffer that is too short
+    for (number, place, room, told) in
+        [(0, 5, 30, (0, 15)), (9, 0, 30, (0, 13)), (9, 0, 12, (4, 0))]
+    {
+        for entries in 0..3 {
+            let (mut text, mut out) = (vec![0u8; room], vec![77u64; entries]);
+            let mut expected = out.clone();
+            expected
+                .iter_mut()
+                .take(1)
+                .for_each(|first| *first = told.1);
+            let (num, den) = (nums.as_ptr(), dens.as_ptr());
+            // SAFETY: each pointer is that of a list of the length given.
+            let answer = unsafe {
+                let (text, out) = (text.as_mut_ptr(), out.as_mut_ptr());
+                raw::dirmoog_listing(number, place, num, 1, den, 1, text, room, out, entries)
+            };
+            assert_eq!((answer, out), (told.0, expected));
+        }
+    }
+}

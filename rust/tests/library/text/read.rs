@@ -1,0 +1,225 @@
+//! The library's reader beside the second one.
+use super::reader::{read, Refused};
+use super::typed::{damage, typed};
+use crate::generate::{sheet, KINDS};
+use crate::generated::Case;
+use crate::random::Random;
+use crate::sheet::Sheet;
+use dirmoog::{read_sheet, Counts, Lists, Reading, Refusal};
+use std::collections::BTreeMap;
+
+/// Lists of arbitrary contents with these lengths.
+fn any_lists(random: &mut Random, lengths: [usize; 5]) -> Sheet {
+    let mut signed = |count: usize| (0..count).map(|_| random.next() as i64).collect();
+    let (wanted, weight, distance) = (signed(lengths[0]), signed(lengths[1]), signed(lengths[4]));
+    let mut numbers = |count: usize| (0..count).map(|_| random.next()).collect();
+    Sheet {
+        wanted,
+        weight,
+        left: numbers(lengths[2]),
+        right: numbers(lengths[3]),
+        distance,
+    }
+}
+
+fn lengths(lists: &Sheet) -> [usize; 5] {
+    [
+        lists.wanted.len(),
+        lists.weight.len(),
+        lists.left.len(),
+        lists.right.len(),
+        lists.distance.len(),
+    ]
+}
+
+/// The front of a list as it was read, and the rest as it was before.
+fn filled<T: Copy>(read: &[T], before: &[T]) -> Vec<T> {
+    [read, &before[read.len()..]].concat()
+}
+
+/// What the second reader makes of a text and these lists: 4 where a list is too short.
+fn expected(text: &[u8], before: &Sheet) -> (Reading, Sheet) {
+    let refused = |(number, place): Refused| {
+        let ring = 0;
+        (
+            Reading::Refused(Refusal {
+                number,
+                place,
+                ring,
+            }),
+            before.clone(),
+        )
+    };
+    let sheet = match read(text) {
+        Ok(sheet) => sheet,
+        Err(refusal) => return refused(refusal),
+    };
+    let needed = lengths(&sheet);
+    if needed
+        .iter()
+        .zip(lengths(before))
+        .any(|(&needed, there)| there < needed)
+    {
+        return refused((4, 0));
+    }
+    let counts = Counts {
+        labels: sheet.labels() as u64,
+        gaps: sheet.gaps() as u64,
+    };
+    let after = Sheet {
+        wanted: filled(&sheet.wanted, &before.wanted),
+        weight: filled(&sheet.weight, &before.weight),
+        left: filled(&sheet.left, &before.left),
+        right: filled(&sheet.right, &before.right),
+        distance: filled(&sheet.distance, &before.distance),
+    };
+    (Reading::Sheet(counts), after)
+}
+
+/// Reads a text into lists with the library.
+pub fn read_into(text: &[u8], lists: &mut Sheet) -> Reading {
+    let mut lent = Lists {
+        wanted: &mut lists.wanted,
+        weight: &mut lists.weight,
+        left: &mut lists.left,
+        right: &mut lists.right,
+        distance: &mut lists.distance,
+    };
+    read_sheet(text, &mut lent)
+}
+
+/// Checks the library's answer and every list afterwards, and gives the refusal's number, or 0.
+fn check(text: &[u8], before: &Sheet) -> u64 {
+    let mut after = before.clone();
+    let reading = read_into(text, &mut after);
+    let (answer, lists) = expected(text, before);
+    assert_eq!(reading, answer, "{}", text.escape_ascii());
+    assert!(after == lists, "lists of {}", text.escape_ascii());
+    match reading {
+        Reading::Sheet(_) => 0,
+        Reading::Refused(refusal) => refusal.number,
+    }
+}
+
+/// Lists that are mostly long enough.
+fn lists_for(random: &mut Random, sheet: &Sheet) -> Sheet {
+    let mut room = lengths(sheet).map(|length| length + random.below(4));
+    if random.once_in(8) {
+        let list = random.below(5);
+        room[list] = random.below(room[list] + 1);
+    }
+    any_lists(random, room)
+}
+
+/// Checks so many generated texts with so many damages each, and counts the numbers.
+fn run(seed: u64, cases: u64, damages: usize) -> BTreeMap<u64, u64> {
+    let mut numbers = BTreeMap::new();
+    for seed in seed..seed + cases {
+        let _case = Case(seed);
+        let mut random = Random::new(seed);
+        let kind = random.pick(&KINDS);
+        let most = random.pick(&[3, 3, 10, 48]);
+        let sheet = sheet(&mut random, kind, 0..=most);
+        let mut text = typed(&mut random, &sheet);
+        for _ in 0..damages {
+            damage(&mut random, &mut text);
+        }
+        let lists = lists_for(&mut random, &sheet);
+        *numbers.entry(check(&text, &lists)).or_insert(0) += 1;
+    }
+    println!("texts with {damages} damages, by number: {numbers:?}");
+    numbers
+}
+
+#[test]
+fn good_texts() {
+    let numbers = run(20_000_000, 10_000, 0);
+    assert!(numbers[&0] > 8_000 && numbers[&4] > 100);
+}
+
+#[test]
+fn damaged_texts() {
+    let once = run(21_000_000, 60_000, 1);
+    assert!(once[&0] > 2_000 && once[&10] > 20_000);
+    let thrice = run(22_000_000, 20_000, 3);
+    assert!(thrice[&10] > 10_000);
+}
+
+/// Texts of so many labels and gaps, with room for all or none.
+#[test]
+fn many_records() {
+    let mut random = Random::new(23_000_000);
+    for (labels, gaps, number) in [
+        (48, 192, 0),
+        (49, 0, 1),
+        (49, 193, 1),
+        (0, 193, 2),
+        (0, 0, 0),
+    ] {
+        let mut sheet = Sheet::default();
+        (0..labels).for_each(|i| sheet.label(i, 1));
+        (0..gaps).for_each(|_| sheet.gap(0, 0, 0));
+        let text = typed(&mut random, &sheet);
+        let room = lengths(&sheet).map(|length| length + 1);
+        let lists = any_lists(&mut random, room);
+        assert_eq!(check(&text, &lists), number);
+        let short = if number == 0 && labels > 0 { 4 } else { number };
+        assert_eq!(check(&text, &Sheet::default()), short);
+    }
+}
+
+/// A text of 16,384 bytes is read, and one byte more is refused whatever it holds.
+#[test]
+fn longest_text() {
+    let lists = any_lists(&mut Random::new(24_000_000), [1; 5]);
+    let mut long = b"label,000000000,000000000,000000001\n".repeat(456);
+    long.truncate(16_384);
+    assert_eq!(check(&long, &lists), 10);
+    long.push(b'\n');
+    assert_eq!(check(&long, &lists), 11);
+    assert_eq!(check(&[0; 20_000], &lists), 11);
+    assert_eq!(check(&b"gap,0,0,00000\n".repeat(1_170), &lists), 2);
+}
+
+/// Single lines, each with what document 01 says of it.
+#[test]
+fn single_lines() {
+    let good: [&[u8]; 9] = [
+        b"label,0,5,2",
+        b"label,0,-5,",
+        b"label,000,-000,1\r\n",
+        b"gap,7,9,-1\n",
+        b"",
+        b"gap,0,0,999999999",
+        b"label,0,-999999999,999999999\n",
+        b"gap,0,0,0\ngap,0,0,0",
+        b"gap,0,0,-0\r\ngap,0,0,0\n",
+    ];
+    let bad: [&[u8]; 20] = [
+        b"label,1,5,2",
+        b"label,0,5",
+        b"label,0,5,2,",
+        b"label,0,,2",
+        b"label,,5,2",
+        b"Label,0,5,2",
+        b"label ,0,5,2",
+        b"label,0,5,-2",
+        b"label,-0,5,2",
+        b"gap,-1,0,0",
+        b"gap,0,0,",
+        b"gap,0,0,-",
+        b"gap,0,0,+1",
+        b"gap,0,0,--1",
+        b"gap,0,0,1000000000",
+        b"label,0,5,2\r",
+        b"\"label\",0,5,2",
+        b"\n",
+        b"\r\n",
+        b"label,0,5\r,2\n",
+    ];
+    let lists = any_lists(&mut Random::new(25_000_000), [4; 5]);
+    good.iter()
+        .for_each(|text| assert_eq!(check(text, &lists), 0));
+    bad.iter()
+        .for_each(|text| assert_eq!(check(text, &lists), 10));
+}
