@@ -1,0 +1,92 @@
+-- The promise of a run decides every byte that is printed: what it leaves open, the ring and the multipliers, is not printed.
+use Prim.Native.Nat.{ℕ, _≤_, _<_}
+use mathlib.Core.Path.{_≡_, refl, sym, ap, _∙_}
+use mathlib.Core.List.{List}
+use native.Mathlib.Omega.{arith}
+use lib.ListN.{length, getD, take, length-replicate}
+use lib.Seq.{getD-take, length-take-le, ext-getD}
+use lib.IntN.{ℤ, pos}
+use Rattle.exact.specs.declared.Fraction.{Fraction}
+use Rattle.least_move.specs.declared.Label.{Label}
+use Rattle.least_move.specs.Sheet.{label}
+use Rattle.layout.specs.declared.Answer.{Answer}
+use Rattle.layout.specs.declared.Answer.the-variants as answer
+use Rattle.layout.specs.Lent.{labelCount, placeOf, multiplierOf}
+use Rattle.layout.specs.Refusals.{Verdict, refuse, pass, table}
+use Rattle.layout.specs.Promise.{Accepted, Filled, refusal, ringLengthOf}
+use Rattle.layout.proofs.Facts.{refused-by-table, judged, places-known}
+use Rattle.sheet_text.specs.declared.Counts.{Counts}
+use Rattle.sheet_text.specs.declared.Reading.{Reading}
+use Rattle.sheet_text.specs.declared.Reading.the-variants.{Sheet, Refused}
+use Rattle.sheet_text.specs.Texts.{Lists, reading}
+use Rattle.sheet_text.specs.Listing.{listing, refusedRecord}
+use Rattle.sheet_run.specs.Run.{blank, sheetRead, lent, LaidOut, PrintedFor, Run}
+use Rattle.sheet_run.proofs.Refusals.{SmallReading, small-reading}
+
+-- a refusal's ring is not printed
+ring-unprinted : (number place ring ring′ : ℕ) → refusedRecord (record { number = number; place = place; ring = ring }) ≡ refusedRecord (record { number = number; place = place; ring = ring′ })
+unfolding refusedRecord
+ring-unprinted number place ring ring′ = refl
+
+-- the first numbers of two lists that agree on them
+pub first-same : (n : ℕ) (xs ys : List ℤ) → n ≤ length xs → n ≤ length ys → ((k : ℕ) → k < n → getD xs k (pos 0) ≡ getD ys k (pos 0)) → take n xs ≡ take n ys
+first-same n xs ys hx hy same =
+    ext-getD (pos 0) (take n xs) (take n ys) (length-take-le n xs hx ∙ sym (length-take-le n ys hy))
+    (λ i h.
+    let below : i < n = omega (arith, length-take-le n xs hx) in
+    getD-take n xs i (pos 0) below ∙ same i below ∙ sym (getD-take n ys i (pos 0) below))
+
+module _ (c : Counts) (l : Lists) (few : c .labels ≤ 48) (known : c .labels ≤ length (l .wanted)) {p q : List ℕ} (one : LaidOut c l p) (two : LaidOut c l q) where
+  counted : labelCount (sheetRead c l) ≡ c .labels
+  counted = length-take-le (c .labels) (l .wanted) known
+
+  -- a list of places of an accepted sheet still has its 48 entries
+  room : {before after : List ℤ} → length before ≡ 48 → Filled (labelCount (sheetRead c l)) before after → c .labels ≤ length after
+  room e filled = omega (arith, filled .size)
+
+  -- the same answer over the same first places is printed alike
+  alike : one .answer ≡ two .answer → take (c .labels) (one .after .place-num) ≡ take (c .labels) (two .after .place-num) → take (c .labels) (one .after .place-den) ≡ take (c .labels) (two .after .place-den) → p ≡ q
+  alike a nums dens = one .listed ∙ rw (a, nums, dens) (sym (two .listed))
+
+  both-refused : (number place ring ring′ : ℕ) → one .answer ≡ refusal number place ring → two .answer ≡ refusal number place ring′ → p ≡ q
+  both-refused number place ring ring′ a b =
+      one .listed
+      ∙ ap (λ (x : Answer). listing x (take (c .labels) (one .after .place-num)) (take (c .labels) (one .after .place-den))) a
+      ∙ ring-unprinted number place ring ring′
+      ∙ sym (ap (λ (x : Answer). listing x (take (c .labels) (two .after .place-num)) (take (c .labels) (two .after .place-den))) b)
+      ∙ sym (two .listed)
+
+  both-placed : one .answer ≡ answer.Placed → Accepted (sheetRead c l) (lent c) (one .after) → two .answer ≡ answer.Placed → Accepted (sheetRead c l) (lent c) (two .after) → ((i : Label) → i .0 < labelCount (sheetRead c l) → placeOf (two .after) i ≡ placeOf (one .after) i) → p ≡ q
+  both-placed a first b second same =
+      alike (a ∙ sym b)
+      (first-same (c .labels) (one .after .place-num) (two .after .place-num) (room (length-replicate 48 (pos 0)) (first .place-nums)) (room (length-replicate 48 (pos 0)) (second .place-nums)) (λ k h. sym (ap (λ (f : Fraction). f .num) (same (label k) (omega (arith, counted))))))
+      (first-same (c .labels) (one .after .place-den) (two .after .place-den) (room (length-replicate 48 (pos 0)) (first .place-dens)) (room (length-replicate 48 (pos 0)) (second .place-dens)) (λ k h. sym (ap (λ (f : Fraction). f .den) (same (label k) (omega (arith, counted))))))
+
+  laid-out-same : p ≡ q
+  laid-out-same = go (table (sheetRead c l) (lent c)) refl
+    where
+      passed : table (sheetRead c l) (lent c) ≡ pass → p ≡ q
+      passed e =
+          judged (one .promise) e
+          (λ a first.
+          let known-two = places-known (two .promise) e (placeOf (one .after)) (multiplierOf (one .after)) (first .conditions) (first .places-lowest) in
+          judged (two .promise) e
+          (λ b second. both-placed a first b second (known-two .1))
+          (λ b none _. absurd (none (placeOf (one .after)) (first .least .feasible))))
+          (λ a none _.
+          judged (two .promise) e
+          (λ b second. absurd (none (placeOf (two .after)) (second .least .feasible)))
+          (λ b _ _. both-refused 9 0 (ringLengthOf (one .answer)) (ringLengthOf (two .answer)) a b))
+
+      go : (v : Verdict) → table (sheetRead c l) (lent c) ≡ v → p ≡ q
+      go (refuse number place) e = both-refused number place 0 0 (refused-by-table (one .promise) number place e .0) (refused-by-table (two .promise) number place e .0)
+      go pass e = passed e
+
+-- two runs on one text print the same, whatever stood in their buffers
+pub run-same : {text before before′ after after′ : List ℕ} {n n′ : ℕ} → Run text before n after → Run text before′ n′ after′ → take n after ≡ take n′ after′
+run-same {text} {before} {before′} {after} {after′} {n} {n′} one two =
+    go (reading text blank .answer) (reading text blank .lists) (small-reading text blank) (one .prints) (two .prints)
+  where
+    go : (r : Reading) (l : Lists) → SmallReading r l → PrintedFor r l (take n after) → PrintedFor r l (take n′ after′) → take n after ≡ take n′ after′
+    go (Refused x) l s a b = a ∙ sym b
+    go (Sheet c) l s a b = laid-out-same c l (s .0) (s .2) a b

@@ -1,0 +1,6 @@
+pub mod Refusals
+pub mod Enough
+pub mod Printing
+pub mod Runs
+pub mod Decided
+pub mod Document

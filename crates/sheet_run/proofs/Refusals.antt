@@ -1,0 +1,143 @@
+-- How large the number and the place of a refusal can be, of a text and of a sheet.
+use Prim.Native.Nat.{ℕ, zero, suc, _+_, _≤_, _<_}
+use mathlib.Core.Path.{_≡_, refl, sym, subst}
+use mathlib.Core.Logic.{_⊎_, ⊎-elim}
+use mathlib.Core.Bool.{Bool, true, false, cond, _&&_}
+use mathlib.Core.List.{List, [], _∷_}
+use native.Mathlib.Omega.{arith}
+use lib.Dec.{eqb, ltb}
+use lib.ListN.{length, length-append, length-map}
+use borrow.Author.Tests.{ltb-false}
+use Rattle.exact.specs.declared.Refusal.{Refusal}
+use Rattle.layout.specs.declared.Answer.{Answer}
+use Rattle.layout.specs.declared.Answer.the-variants as answer
+use Rattle.layout.specs.Lent.{Read, Written, labelCount, gapCount}
+use Rattle.layout.specs.Refusals.{Verdict, refuse, pass, check, offender, ragged, short, offPlate, badWeight, stranger, badGap, table}
+use Rattle.layout.specs.Promise.{Promise, ByTable}
+use Rattle.sheet_text.specs.declared.Taken.{Taken}
+use Rattle.sheet_text.specs.declared.Taken.the-variants.{Good, Bad}
+use Rattle.sheet_text.specs.declared.Row.{Row}
+use Rattle.sheet_text.specs.declared.Reading.{Reading}
+use Rattle.sheet_text.specs.declared.Reading.the-variants.{Sheet, Refused}
+use Rattle.sheet_text.specs.Lines.{lines, push, startsWith, lineFeed, carriageReturn}
+use Rattle.sheet_text.specs.Taking.{taken}
+use Rattle.sheet_text.specs.Texts.{Typed, nothingTyped, add, Outcome, bad-line, sheet, follow, readFrom, outcome, Lists, Done, roomFor, filled, refusedWith, countsOf, settled, judged, reading}
+
+-- a refusal whose number and place are small
+abbrev pub Small : Refusal → Type 0
+Small r = (r .number ≤ 11) × (r .place ≤ 16384)
+
+-- ---- a text
+
+push-most : (b : ℕ) (ss : List (List ℕ)) → length (push b ss) ≤ suc (length ss)
+push-most b [] = omega arith
+push-most b (s ∷ ss) = omega arith
+
+-- a text has no more lines than bytes
+lines-most : (text : List ℕ) → length (lines text) ≤ length text
+unfolding lines
+lines-most [] = omega arith
+lines-most (b ∷ bs) = go (lines-most bs) (eqb b lineFeed) (eqb b carriageReturn && startsWith lineFeed bs)
+  where
+    go : length (lines bs) ≤ length bs → (feed ended : Bool) → length (cond feed ([] ∷ lines bs) (cond ended (lines bs) (push b (lines bs)))) ≤ suc (length bs)
+    go h true ended = omega arith
+    go h false true = omega arith
+    go h false false = omega (arith, push-most b (lines bs))
+
+-- a bad line's number is below this
+abbrev LineBelow : ℕ → Outcome → Type 0
+LineBelow most (bad-line n) = n < most
+LineBelow most (sheet t) = Unit {0}
+
+line-below : (ls : List (List ℕ)) (n : ℕ) (t : Typed) (most : ℕ) → n + length ls ≤ most → LineBelow most (readFrom ls n t)
+unfolding readFrom
+line-below [] n t most h = tt
+line-below (l ∷ ls) n t most h = go (taken (length (t .labels)) l) (λ row. line-below ls (suc n) (add t row) most (omega arith))
+  where
+    go : (k : Taken) → ((row : Row) → LineBelow most (readFrom ls (suc n) (add t row))) → LineBelow most (follow k n t (readFrom ls (suc n)))
+    go Bad later = omega arith
+    go (Good row) later = later row
+
+-- a reading is a small refusal, or a sheet within the limits of document 01 whose labels stand in the list
+abbrev pub SmallReading : Reading → Lists → Type 0
+SmallReading (Refused r) l = Small r
+SmallReading (Sheet c) l = (c .labels ≤ 48) × (c .gaps ≤ 192) × (c .labels ≤ length (l .wanted))
+
+abbrev SmallDone : Done → Type 0
+SmallDone d = SmallReading (d .answer) (d .lists)
+
+labels-filled : (t : Typed) (b : Lists) → length (t .labels) ≤ length (filled t b .wanted)
+unfolding filled
+labels-filled t b = simp (length-append, length-map) (omega arith)
+
+small-settled : (t : Typed) (b : Lists) → SmallDone (settled t b)
+small-settled t b = go (ltb 48 (length (t .labels))) refl (ltb 192 (length (t .gaps))) refl (roomFor t b)
+  where
+    go :
+        (crowded : Bool) → ltb 48 (length (t .labels)) ≡ crowded → (gapped : Bool) → ltb 192 (length (t .gaps)) ≡ gapped → (room : Bool) →
+        SmallDone (cond crowded (refusedWith 1 0 b) (cond gapped (refusedWith 2 0 b) (cond room (record { answer = Sheet (countsOf t); lists = filled t b }) (refusedWith 4 0 b))))
+    go true e gapped g room = (omega arith, omega arith)
+    go false e true g room = (omega arith, omega arith)
+    go false e false g false = (omega arith, omega arith)
+    go false e false g true = (ltb-false 48 (length (t .labels)) e, ltb-false 192 (length (t .gaps)) g, labels-filled t b)
+
+small-judged : (o : Outcome) (b : Lists) → LineBelow 16385 o → SmallDone (judged o b)
+small-judged (bad-line n) b h = (omega arith, omega arith)
+small-judged (sheet t) b h = small-settled t b
+
+pub small-reading : (text : List ℕ) (b : Lists) → SmallReading (reading text b .answer) (reading text b .lists)
+unfolding reading
+small-reading text b = go (ltb 16384 (length text)) refl
+  where
+    go : (long : Bool) → ltb 16384 (length text) ≡ long → SmallDone (cond long (refusedWith 11 0 b) (judged (outcome text) b))
+    go true e = (omega arith, omega arith)
+    go false e =
+        small-judged (outcome text) b
+        (line-below (lines text) 1 nothingTyped 16385 (omega (arith, lines-most text, ltb-false 16384 (length text) e)))
+
+-- ---- a sheet
+
+abbrev SmallVerdict : Verdict → Type 0
+SmallVerdict (refuse number place) = (number ≤ 11) × (place ≤ 16384)
+SmallVerdict pass = Unit {0}
+
+small-check : (number : ℕ) → number ≤ 11 → (bad : Bool) (later : Verdict) → SmallVerdict later → SmallVerdict (check number bad later)
+small-check number h true later s = (h, omega arith)
+small-check number h false later s = s
+
+small-offender : (number : ℕ) → number ≤ 11 → (n : ℕ) → n ≤ 16384 → (bad : ℕ → Bool) (later : Verdict) → SmallVerdict later → SmallVerdict (offender number n bad later)
+unfolding offender
+small-offender number h zero l bad later s = s
+small-offender number h (suc n) l bad later s = small-offender number h n (omega arith) bad (cond (bad n) (refuse number n) later) (go (bad n))
+  where
+    go : (t : Bool) → SmallVerdict (cond t (refuse number n) later)
+    go true = (h, omega arith)
+    go false = s
+
+small-table : (r : Read) (w : Written) → labelCount r ≤ 16384 → gapCount r ≤ 16384 → SmallVerdict (table r w)
+unfolding table
+small-table r w l g =
+    small-check 1 (omega arith) (ltb 48 (labelCount r)) _
+    (small-check 2 (omega arith) (ltb 192 (gapCount r)) _
+    (small-check 3 (omega arith) (ragged r w) _
+    (small-check 4 (omega arith) (short r w) _
+    (small-offender 5 (omega arith) (labelCount r) l (offPlate r) _
+    (small-offender 6 (omega arith) (labelCount r) l (badWeight r) _
+    (small-offender 7 (omega arith) (gapCount r) g (stranger r) _
+    (small-offender 8 (omega arith) (gapCount r) g (badGap r) pass tt)))))))
+
+abbrev pub SmallAnswer : Answer → Type 0
+SmallAnswer answer.Placed = Unit {0}
+SmallAnswer (answer.Refused r) = Small r
+
+-- a layout call that keeps its promise refuses with a small number and place
+pub small-answer : (r : Read) (w : Written) (a : Answer) (after : Written) → labelCount r ≤ 16384 → gapCount r ≤ 16384 → Promise r w a after → SmallAnswer a
+small-answer r w a after l g p = go (table r w) (small-table r w l g) (p .kept)
+  where
+    go : (v : Verdict) → SmallVerdict v → ByTable v r w a after → SmallAnswer a
+    go (refuse number place) s k = subst SmallAnswer (sym (k .0)) s
+    go pass s k =
+        ⊎-elim
+        (λ placed. subst SmallAnswer (sym (placed .0)) tt)
+        (λ ring. subst SmallAnswer (sym (ring .0)) (omega arith, omega arith))
+        k

@@ -1,0 +1,56 @@
+-- From the steps of a run to the whole.
+use Prim.Native.Nat.{ℕ, _≤_}
+use mathlib.Core.Path.{_≡_, sym, subst}
+use mathlib.Core.List.{List}
+use native.Mathlib.Omega.{arith}
+use lib.ListN.{length, take}
+use lib.IntN.{ℤ}
+use Rattle.exact.specs.declared.Refusal.{Refusal}
+use Rattle.layout.specs.declared.Answer.{Answer}
+use Rattle.layout.specs.Promise.{Filled}
+use Rattle.sheet_text.specs.declared.Counts.{Counts}
+use Rattle.sheet_text.specs.declared.Reading.{Reading}
+use Rattle.sheet_text.specs.declared.Reading.the-variants.{Sheet, Refused}
+use Rattle.sheet_text.specs.Texts.{Lists, Done}
+use Rattle.sheet_text.specs.Parts.{ReadInto}
+use Rattle.sheet_text.specs.Listing.{listing, refusedRecord}
+use Rattle.sheet_run.specs.Run.{zeros, blank, LaidOut, PrintedFor, Run}
+use Rattle.sheet_run.specs.Steps.{Holds, Answered, Printed, PrintedRead, lentOver}
+use Rattle.sheet_run.proofs.Refusals.{SmallReading, small-reading}
+use Rattle.sheet_run.proofs.Enough.{refused-most, laid-out-most}
+
+-- ---- the sheet that was read
+
+module _ (c : Counts) (l : Lists) (a : Answer) (nums dens : List ℤ) (given : Answered c l (zeros 48) (zeros 48) a nums dens) where
+  pub answered-most : Holds c l → length (listing a (take (c .labels) nums) (take (c .labels) dens)) ≤ 3072
+  answered-most h =
+      rw (← given .nums-left, ← given .dens-left)
+      (laid-out-most c l (lentOver c (zeros 48) (zeros 48)) a (given .after) (h .labels) (h .gaps) (omega (arith, h .labels, h .wanted)) (given .promise))
+
+  laid-out : (printed : List ℕ) → printed ≡ listing a (take (c .labels) nums) (take (c .labels) dens) → LaidOut c l printed
+  laid-out printed e = record { answer = a; after = given .after; promise = given .promise; listed = rw (given .nums-left, given .dens-left) e }
+
+  pub printed-read : (b : List ℕ) (n : ℕ) (after : List ℕ) → Printed (listing a (take (c .labels) nums) (take (c .labels) dens)) b n after → PrintedRead c l b n after
+  printed-read b n after p = record { within = p .within; front = laid-out (take n after) (p .front); rest = p .rest }
+
+-- ---- the text
+
+module _ (text : List ℕ) (r : Reading) (l : Lists) (into : ReadInto text blank r l) where
+  small : SmallReading r l
+  small = subst (λ (d : Done). SmallReading (d .answer) (d .lists)) (sym into) (small-reading text blank)
+
+  pub refusal-most : (x : Refusal) → r ≡ Refused x → length (refusedRecord x) ≤ 3072
+  refusal-most x e = refused-most x (subst (λ (q : Reading). SmallReading q l) e small)
+
+  pub within-limits : (c : Counts) → r ≡ Sheet c → SmallReading (Sheet c) l
+  within-limits c e = subst (λ (q : Reading). SmallReading q l) e small
+
+  run : (b : List ℕ) (n : ℕ) (after : List ℕ) → n ≤ 3072 → PrintedFor r l (take n after) → Filled n b after → Run text b n after
+  run b n after within prints rest =
+      record { within = within; prints = subst (λ (d : Done). PrintedFor (d .answer) (d .lists) (take n after)) into prints; rest = rest }
+
+  pub run-refused : (x : Refusal) → r ≡ Refused x → (b : List ℕ) (n : ℕ) (after : List ℕ) → Printed (refusedRecord x) b n after → Run text b n after
+  run-refused x e b n after p = run b n after (p .within) (subst (λ (q : Reading). PrintedFor q l (take n after)) (sym e) (p .front)) (p .rest)
+
+  pub run-read : (c : Counts) → r ≡ Sheet c → (b : List ℕ) (n : ℕ) (after : List ℕ) → PrintedRead c l b n after → Run text b n after
+  run-read c e b n after p = run b n after (p .within) (subst (λ (q : Reading). PrintedFor q l (take n after)) (sym e) (p .front)) (p .rest)

@@ -1,0 +1,80 @@
+-- `sheet_run::print_read` meets its contract: the listing of what the layout answered, over the first places.
+use mathlib.Core.Path.{_≡_, sym, _∙_}
+use mathlib.Core.List.{List}
+use borrow.Author.Needs.{needs}
+use native.Mathlib.Omega.{arith}
+use denote.Ref.{now}
+use lib.ListN.{length, take}
+use lib.Seq.{length-take-le}
+use lib.IntN.{ℤ}
+use Rattle.sheet_text.specs.Texts.{Lists}
+use Rattle.sheet_run.proofs.Runs.{answered-most, printed-read}
+use Rattle.sheet_run.proofs.print_read.Statement.{statement}
+use Rattle.sheet_run.proofs.print_read.Tie as tie
+
+-- the lists that the sheet was read into
+abbrev read-into : tie.Start → Lists
+read-into s = record { wanted = now (s .args .wanted); weight = now (s .args .weight); left = now (s .args .left); right = now (s .args .right); distance = now (s .args .distance) }
+
+-- the places that the layout left
+abbrev nums : tie.After-lay-out-read → List ℤ
+nums d = d .lay-out-read .last .1 .1 .1 .1 .1 .1 .0
+
+abbrev dens : tie.After-lay-out-read → List ℤ
+dens d = d .lay-out-read .last .1 .1 .1 .1 .1 .1 .1 .0
+
+first-nums : (d : tie.After-lay-out-read) → length (take (d .before .before .before .before .before .args .counts .labels) (nums d)) ≡ d .before .before .before .before .before .args .counts .labels
+first-nums d = length-take-le (d .before .before .before .before .before .args .counts .labels) (nums d) (omega (arith, d .before .before .before .before .before .pre .labels, d .lay-out-read .kept .1 .1 .1 .1 .1 .1 .0))
+
+first-dens : (d : tie.After-lay-out-read) → length (take (d .before .before .before .before .before .args .counts .labels) (dens d)) ≡ d .before .before .before .before .before .args .counts .labels
+first-dens d = length-take-le (d .before .before .before .before .before .args .counts .labels) (dens d) (omega (arith, d .before .before .before .before .before .pre .labels, d .lay-out-read .kept .1 .1 .1 .1 .1 .1 .1 .0))
+
+slice-aggregate-lay-out-read : tie.Need-slice-aggregate-lay-out-read
+slice-aggregate-lay-out-read c = search needs
+
+slice-aggregate-lay-out-read-2 : tie.Need-slice-aggregate-lay-out-read-2
+slice-aggregate-lay-out-read-2 c = search needs
+
+lay-out-read-requires : tie.Need-lay-out-read-requires
+lay-out-read-requires c κs = search needs
+
+array-share-prefix-place-num : tie.Need-array-share-prefix-place-num
+array-share-prefix-place-num c = search needs
+
+slice-aggregate-print : tie.Need-slice-aggregate-print
+slice-aggregate-print c = sym (first-nums (c .before .before .before))
+
+array-share-prefix-place-den : tie.Need-array-share-prefix-place-den
+array-share-prefix-place-den c = search needs
+
+slice-aggregate-print-2 : tie.Need-slice-aggregate-print-2
+slice-aggregate-print-2 c = sym (first-dens (c .before .before .before .before))
+
+print-requires : tie.Need-print-requires
+print-requires c κs =
+    let d = c .before .before .before .before .before in
+    let s = d .before .before .before .before .before in (
+      omega (arith, first-nums d, s .pre .labels),
+      first-dens d ∙ sym (first-nums d),
+      answered-most (s .args .counts) (read-into s) (d .lay-out-read .result) (nums d) (dens d) (d .lay-out-read .ensures) (s .pre),
+    )
+
+returns : tie.Need-returns
+returns c =
+    let d = c .before .before .before .before .before .before in
+    let s = d .before .before .before .before .before in
+    printed-read (s .args .counts) (read-into s) (d .lay-out-read .result) (nums d) (dens d) (d .lay-out-read .ensures) (now (s .args .out)) _ _ (c .print .ensures)
+
+pub print-read-spec : {M : Type 1} → statement M
+print-read-spec =
+    tie.close
+    (tie.spec
+    slice-aggregate-lay-out-read
+    slice-aggregate-lay-out-read-2
+    lay-out-read-requires
+    array-share-prefix-place-num
+    slice-aggregate-print
+    array-share-prefix-place-den
+    slice-aggregate-print-2
+    print-requires
+    returns)

@@ -1,0 +1,52 @@
+-- What a run of the station prints for a text (document 01, "Sheet text").
+use Prim.Native.Nat.{ℕ, _≤_}
+use mathlib.Core.Path.{_≡_}
+use mathlib.Core.List.{List}
+use lib.ListN.{take, replicate}
+use lib.IntN.{ℤ, pos}
+use Rattle.layout.specs.declared.Answer.{Answer}
+use Rattle.layout.specs.Lent.{Read, Written, lists}
+use Rattle.layout.specs.Promise.{Promise, Filled}
+use Rattle.sheet_text.specs.declared.Counts.{Counts}
+use Rattle.sheet_text.specs.declared.Reading.{Reading}
+use Rattle.sheet_text.specs.declared.Reading.the-variants.{Sheet, Refused}
+use Rattle.sheet_text.specs.Texts.{Lists, reading}
+use Rattle.sheet_text.specs.Listing.{listing, refusedRecord}
+
+-- so many zeros
+abbrev pub zeros : ℕ → List ℤ
+zeros n = replicate n (pos 0)
+
+-- the lists that a run reads into: zeros, with room for every sheet
+abbrev pub blank : Lists
+blank = record { wanted = zeros 48; weight = zeros 48; left = replicate 192 0; right = replicate 192 0; distance = zeros 192 }
+
+-- the sheet that was read: the first entries, one per label or gap
+abbrev pub sheetRead : Counts → Lists → Read
+sheetRead c l = record {
+  wanted = take (c .labels) (l .wanted);
+  weight = take (c .labels) (l .weight);
+  gaps = lists (take (c .gaps) (l .left)) (take (c .gaps) (l .right)) (take (c .gaps) (l .distance));
+}
+
+-- "The program starts from a carried record of zeros"; the other buffers have room for every sheet
+abbrev pub lent : Counts → Written
+lent c = record { place-num = zeros 48; place-den = zeros 48; mult-num = zeros 192; mult-den = zeros 192; ring = replicate 48 0; carried = replicate (c .gaps) 0 }
+
+-- the listing of what a layout call that keeps its promise answers; it "prints neither multipliers nor rings"
+pub record LaidOut (c : Counts) (l : Lists) (printed : List ℕ) : Type 0 where
+  pub answer : Answer
+  pub after : Written
+  pub promise : Promise (sheetRead c l) (lent c) answer after
+  pub listed : printed ≡ listing answer (take (c .labels) (after .place-num)) (take (c .labels) (after .place-den))
+
+-- what is printed for a reading: "A refused sheet prints only: refused, number, place"
+abbrev pub PrintedFor : Reading → Lists → List ℕ → Type 0
+PrintedFor (Refused r) l printed = printed ≡ refusedRecord r
+PrintedFor (Sheet c) l printed = LaidOut c l printed
+
+-- the whole of a run: the first n bytes of the buffer are what is printed for the text, and the rest stays
+pub record Run (text before : List ℕ) (n : ℕ) (after : List ℕ) : Type 0 where
+  pub within : n ≤ 3072
+  pub prints : PrintedFor (reading text blank .answer) (reading text blank .lists) (take n after)
+  pub rest : Filled n before after

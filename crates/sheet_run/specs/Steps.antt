@@ -1,0 +1,45 @@
+-- What the steps of a run promise to each other.
+use Prim.Native.Nat.{ℕ, _≤_}
+use mathlib.Core.Path.{_≡_}
+use mathlib.Core.List.{List}
+use lib.ListN.{length, take, replicate}
+use lib.IntN.{ℤ}
+use Rattle.layout.specs.declared.Answer.{Answer}
+use Rattle.layout.specs.Lent.{Written}
+use Rattle.layout.specs.Promise.{Promise, Filled}
+use Rattle.sheet_text.specs.declared.Counts.{Counts}
+use Rattle.sheet_text.specs.Texts.{Lists}
+use Rattle.sheet_run.specs.Run.{zeros, sheetRead, LaidOut}
+
+-- a sheet was read into these lists
+pub record Holds (c : Counts) (l : Lists) : Type 0 where
+  pub labels : c .labels ≤ 48
+  pub gaps : c .gaps ≤ 192
+  pub wanted : length (l .wanted) ≡ 48
+  pub weight : length (l .weight) ≡ 48
+  pub left : length (l .left) ≡ 192
+  pub right : length (l .right) ≡ 192
+  pub distance : length (l .distance) ≡ 192
+
+-- the buffers of a layout call, over these for the places
+abbrev pub lentOver : Counts → (nums dens : List ℤ) → Written
+lentOver c nums dens = record { place-num = nums; place-den = dens; mult-num = zeros 192; mult-den = zeros 192; ring = replicate 48 0; carried = replicate (c .gaps) 0 }
+
+-- an answer that keeps the promise, with the places afterwards
+pub record Answered (c : Counts) (l : Lists) (nums dens : List ℤ) (a : Answer) (nums-after dens-after : List ℤ) : Type 0 where
+  pub after : Written
+  pub promise : Promise (sheetRead c l) (lentOver c nums dens) a after
+  pub nums-left : after .place-num ≡ nums-after
+  pub dens-left : after .place-den ≡ dens-after
+
+-- the first n bytes of the buffer are this text, and the rest stays
+pub record Printed (text before : List ℕ) (n : ℕ) (after : List ℕ) : Type 0 where
+  pub within : n ≤ 3072
+  pub front : take n after ≡ text
+  pub rest : Filled n before after
+
+-- the same of the sheet that was read
+pub record PrintedRead (c : Counts) (l : Lists) (before : List ℕ) (n : ℕ) (after : List ℕ) : Type 0 where
+  pub within : n ≤ 3072
+  pub front : LaidOut c l (take n after)
+  pub rest : Filled n before after
