@@ -6,7 +6,8 @@ use mathlib.Core.Path.{_≡_, refl, sym, ap, _∙_}
 use mathlib.Core.List.{List}
 use lib.ListN.{length, getD, set, drop, length-set}
 use lib.Seq.{drop-set-lt, drop-drop, getD-set-same, getD-set-other}
-use lib.IntN.{ℤ, pos}
+use native.Mathlib.Nat.{eq-one-of-dvd-one}
+use lib.IntN.{ℤ, pos, *ℤ-comm, *ℤ-zero}
 use lib.Signed.{_≤ℤ_, _<ℤ_}
 use Rattle.exact.proofs.Whole.{le-parts, parts-lt}
 use Rattle.exact.specs.declared.Fraction.{Fraction}
@@ -63,3 +64,11 @@ reduced-turn {k} {num} {den} {upper₀} {lower₀} {upper} {lower} q w above bel
 
 pub reduced-end : {n k : ℕ} {num den upper₀ lower₀ upper lower : List ℤ} → FractionsWritten k num den upper₀ lower₀ upper lower → k ≤ n → n ≤ k → FractionsWritten n num den upper₀ lower₀ upper lower
 reduced-end {n} {k} w h g = let e : n ≡ k = omega arith in rw e w
+
+-- zero in lowest terms
+pub zero-reduced : (q : Fraction) → q .num ≡ pos 0 → pos 0 <ℤ q .den → Reduced q (record { num = pos 0; den = pos 1 })
+zero-reduced q z above =
+    record {
+      same = rw z (*ℤ-comm (pos 0) (q .den) ∙ *ℤ-zero (q .den) ∙ sym (*ℤ-zero (pos 1)) ∙ *ℤ-comm (pos 1) (pos 0));
+      lowest = record { above = parts-lt (omega arith); reduced = λ k _ one. eq-one-of-dvd-one one };
+    }

@@ -2,8 +2,34 @@
 use balance::balance_all;
 use method::settle::settle;
 use proposal::propose;
+use violation::Worst;
+use violation::worst_gap;
+ghost use mathlib.Core.Path.{_≡_};
+ghost use mathlib.Core.Bool.{true};
+ghost use Prim.Native.Nat.{ℕ, _<_};
 ghost use Rattle.step.specs.Problem.{Limits};
+ghost use Rattle.violation.specs.Violation.{Comparable, GapHolds};
 ghost use Rattle.projection.specs.Core.{CoreSays};
+
+// Whether every gap holds where the labels stand.
+fn all_held(
+    gaps: usize,
+    left: &[usize; 192],
+    right: &[usize; 192],
+    distance: &[i64; 192],
+    kind: &[u8; 192],
+    num: &[i64; 48],
+    den: &[i64; 48],
+) -> bool
+    requires { ⌜ Comparable gaps (now left) (now right) (now distance) (now num) (now den) ⌝ }
+    ensures { λ r. ⌜ (r ≡ true → (e : ℕ) → e < gaps → GapHolds (now (left .entry)) (now (right .entry)) (now (distance .entry)) (now (kind .entry)) (now (num .entry)) (now (den .entry)) e) ⌝ }
+{
+    let worst = worst_gap(gaps, left, right, distance, kind, num, den);
+    match worst {
+        Worst::Nothing => true,
+        Worst::Gap(_, _) => false,
+    }
+}
 
 // Lays the labels out. Gives 0 where every gap holds: label i stands at num[i] over den[i], gap e has the multiplier load[e] over over[e] and
 // is marked where mark[e] is 1. Otherwise a ring of so many gaps stands in the front of ring, with 1 in back for a gap passed backwards.
@@ -28,7 +54,7 @@ pub(crate) fn solve(
     requires { ⌜ Limits (record { labels = labels; gaps = gaps; left = now left; right = now right; distance = now distance; kind = now kind; wanted = now wanted; weight = now weight }) ⌝ }
     ensures { λ r. ⌜ CoreSays (record { labels = labels; gaps = gaps; left = now (left .entry); right = now (right .entry); distance = now (distance .entry); kind = now (kind .entry); wanted = now (wanted .entry); weight = now (weight .entry) }) r (now (mark .exit)) (now (num .exit)) (now (den .exit)) (now (load .exit)) (now (over .exit)) (now (ring .exit)) (now (back .exit)) ⌝ }
 {
-    let mut block = [0usize; 48];
+    let mut block = [0u8; 48];
     let mut at = [0usize; 48];
     let mut queue = [0usize; 48];
     let mut via = [0usize; 48];
@@ -61,6 +87,9 @@ pub(crate) fn solve(
         load,
         over,
     );
+    if all_held(gaps, left, right, distance, kind, num, den) {
+        return 0;
+    }
     let size = settle(
         labels,
         gaps,

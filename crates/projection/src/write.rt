@@ -1,11 +1,24 @@
 // Results written to the front of lent lists.
+use exact::Fraction;
 use exact::divide::lowest;
 ghost use Prim.Native.Nat.{ℕ, _<_, _≤_};
 ghost use lib.ListN.{length};
 ghost use lib.IntN.{pos};
-ghost use lib.Signed.{_≤ℤ_};
+ghost use lib.Signed.{_≤ℤ_, _<ℤ_};
+ghost use Rattle.exact.specs.Fraction.{Reduced};
 ghost use Rattle.forest.specs.Tree.{int};
 ghost use Rattle.projection.specs.Project.{FractionsWritten, FrontWritten};
+
+// A fraction in lowest terms. Most multipliers are zero, which takes no division.
+fn reduced(num: i64, den: i64) -> Fraction
+    requires { ⌜ pos 0 <ℤ den ⌝ }
+    ensures { λ r. ⌜ Reduced (record { num = num; den = den }) r ⌝ }
+{
+    if num == 0 {
+        return Fraction { num: 0, den: 1 };
+    }
+    lowest(num, den)
+}
 
 // Writes the places in lowest terms.
 pub(crate) fn places_out(
@@ -20,7 +33,7 @@ pub(crate) fn places_out(
 {
     let mut k: usize = 0;
     while k < count {
-        let q = lowest(num[k], den[k]);
+        let q = reduced(num[k], den[k]);
         let top = q.num;
         let bottom = q.den;
         upper[k] = top;
@@ -42,7 +55,7 @@ pub(crate) fn multipliers_out(
 {
     let mut k: usize = 0;
     while k < count {
-        let q = lowest(num[k], den[k]);
+        let q = reduced(num[k], den[k]);
         let top = q.num;
         let bottom = q.den;
         upper[k] = top;

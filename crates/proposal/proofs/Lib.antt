@@ -1,1 +1,2 @@
 pub mod Planting
+pub mod Doubles

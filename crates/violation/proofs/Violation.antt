@@ -1,12 +1,14 @@
 -- What the search for a gap that does not hold leans on: the sizes of its products, what a lack says of a gap, and the search's turns.
 use mathlib.Core.Path.{_≡_, refl, sym, subst, _∙_, ap, ap₂}
 use mathlib.Core.Logic.{_⊎_, inl, inr, _≢_}
-use mathlib.Core.Bool.{Bool, true, false}
+use mathlib.Core.Bool.{Bool, true, false, cond}
 use mathlib.Core.List.{List, [], _∷_}
 use Prim.Native.Nat.{ℕ, zero, suc, _+_, _*_, _≤_, _<_, _^_}
 use native.Mathlib.Omega.{arith}
 use native.Mathlib.Nat.{mul-le-mul}
 use borrow.Author.Count.{below-more}
+use borrow.Author.Tests.{eq-eqb, ne-eqb}
+use lib.Dec.{eqb}
 use lib.IntN.{ℤ, pos, negℤ, natAbs, _+ℤ_, _-ℤ_, _*ℤ_}
 use lib.Signed.{_≤ℤ_, _<ℤ_, ltZ}
 use mir.Syntax.{w64}
@@ -19,9 +21,10 @@ use Rattle.least_move.specs.declared.GapNumber.{GapNumber}
 use Rattle.least_move.specs.Sheet.{exactly, ignored}
 use Rattle.forest.specs.Tree.{nat, int}
 use Rattle.step.specs.Problem.{kindOf}
+use Rattle.violation.specs.declared.Lead.{Lead}
 use Rattle.violation.specs.declared.Worst.{Worst}
 use Rattle.violation.specs.declared.Worst.the-variants.{Nothing, Gap}
-use Rattle.violation.specs.Violation.{reachOf, standsAt, HoldsBy, GapHolds, Lacks, WorstOf, PlaceInRange, Comparable}
+use Rattle.violation.specs.Violation.{reachOf, standsAt, HoldsBy, GapHolds, Lacks, WorstOf, leadOf, PlaceInRange, Comparable}
 
 -- ---- sizes, and what is read back from 64 bits
 
@@ -200,3 +203,20 @@ comparable-first {k} h c =
       right-placed = λ e l. c .right-placed e (omega arith);
       distance-most = λ e l. c .distance-most e (omega arith);
     }
+
+-- ---- the lead
+
+pub lead-none : (l : Lead) → l .tag ≡ 0 → leadOf l ≡ Nothing
+lead-none l q = ap (λ t. cond t Nothing (Gap (l .gap) (eqb (l .tag) 2))) (eq-eqb (l .tag) 0 q)
+
+pub lead-new : (tag : ℕ) (e : GapNumber) → tag ≢ 0 → cond (eqb tag 0) Nothing (Gap e (eqb tag 2)) ≡ Gap e (eqb tag 2)
+lead-new tag e d = ap (λ t. cond t Nothing (Gap e (eqb tag 2))) (ne-eqb tag 0 d)
+
+pub lead-some : (l : Lead) → l .tag ≢ 0 → leadOf l ≡ Gap (l .gap) (eqb (l .tag) 2)
+lead-some l d = lead-new (l .tag) (l .gap) d
+
+some-gap : (e : GapNumber) (b : Bool) → Gap e b ≢ Nothing
+some-gap e b q = let z : _≡_ {A = ℕ} 0 1 = cc in omega arith
+
+pub lead-there : (l : Lead) → l .tag ≢ 0 → leadOf l ≢ Nothing
+lead-there l d e = some-gap (l .gap) (eqb (l .tag) 2) (sym (lead-some l d) ∙ e)

@@ -2,13 +2,15 @@
 use Prim.Native.Nat.{ℕ, _*_, _≤_, _<_}
 use mathlib.Core.Path.{_≡_}
 use mathlib.Core.Logic.{_≢_}
-use mathlib.Core.Bool.{Bool, true, false}
+use mathlib.Core.Bool.{Bool, true, false, cond}
 use mathlib.Core.List.{List}
+use lib.Dec.{eqb}
 use lib.IntN.{ℤ, pos, natAbs, _+ℤ_, _-ℤ_, _*ℤ_}
 use lib.Signed.{_≤ℤ_, _<ℤ_}
 use Rattle.least_move.specs.Sheet.{Kind, at-least, exactly, ignored}
 use Rattle.forest.specs.Tree.{nat, int}
 use Rattle.step.specs.Problem.{kindOf}
+use Rattle.violation.specs.declared.Lead.{Lead}
 use Rattle.violation.specs.declared.Worst.{Worst}
 use Rattle.violation.specs.declared.Worst.the-variants.{Nothing, Gap}
 
@@ -39,6 +41,10 @@ Lacks left right distance kind num den e true =
 abbrev pub WorstOf : (left right : List ℕ) (distance : List ℤ) (kind : List ℕ) (num den : List ℤ) → ℕ → Worst → Type 0
 WorstOf left right distance kind num den k Nothing = (e : ℕ) → e < k → GapHolds left right distance kind num den e
 WorstOf left right distance kind num den k (Gap e back) = (e .0 < k) × Lacks left right distance kind num den (e .0) back
+
+-- the worst gap so far
+abbrev pub leadOf : Lead → Worst
+leadOf l = cond (eqb (l .tag) 0) Nothing (Gap (l .gap) (eqb (l .tag) 2))
 
 -- a place that can be compared
 pub record PlaceInRange (num den : List ℤ) (i : ℕ) : Type 0 where

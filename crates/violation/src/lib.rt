@@ -3,12 +3,13 @@ use least_move::GapNumber;
 ghost use mathlib.Core.Path.{_≡_};
 ghost use mathlib.Core.Logic.{_⊎_, _≢_};
 ghost use Prim.Native.Nat.{_+_, _≤_};
+ghost use lib.Dec.{eqb};
 ghost use lib.IntN.{pos, natAbs, _+ℤ_, _-ℤ_, _*ℤ_};
 ghost use lib.Signed.{_<ℤ_, quotZ};
 ghost use mir.Syntax.{w64};
 ghost use mir.Val.{SFits};
 ghost use Rattle.violation.specs.declared.Worst.the-variants.{Nothing, Gap};
-ghost use Rattle.violation.specs.Violation.{Comparable, PlaceInRange, WorstOf, reachOf, standsAt};
+ghost use Rattle.violation.specs.Violation.{Comparable, PlaceInRange, WorstOf, leadOf, reachOf, standsAt};
 
 // The gap that holds least, and whether it is pushed backwards; or none, where every gap holds.
 pub enum Worst {
@@ -16,33 +17,36 @@ pub enum Worst {
     Gap(GapNumber, bool),
 }
 
-// The worst gap so far, and how many whole units it lacks.
+// The worst gap so far, and how many whole units it lacks. The tag is 0 where there is none, 1, or 2 where it is pushed backwards: with whole
+// words alone the loop copies no padding.
 struct Lead {
-    gap: Worst,
+    tag: usize,
+    gap: GapNumber,
     whole: i64,
 }
 
-// The gap that lacks more whole units: the lead, or gap e.
-fn better(lead: Lead, e: GapNumber, back: bool, whole: i64) -> Lead
-    ensures { λ r. ⌜ (r .gap ≡ Gap e back) ⊎ ((r .gap ≡ lead .gap) × (lead .gap ≢ Nothing)) ⌝ }
+// The worst gap, as it is told.
+fn told(lead: Lead) -> Worst
+    ensures { λ r. ⌜ r ≡ leadOf lead ⌝ }
 {
+    if lead.tag == 0 {
+        return Worst::Nothing;
+    }
     let gap = lead.gap;
-    match gap {
-        Worst::Nothing => Lead {
-            gap: Worst::Gap(e, back),
-            whole,
-        },
-        Worst::Gap(_, _) => {
-            if lead.whole < whole {
-                Lead {
-                    gap: Worst::Gap(e, back),
-                    whole,
-                }
-            } else {
-                lead
-            }
+    Worst::Gap(gap, lead.tag == 2)
+}
+
+// The gap that lacks more whole units: the lead, or gap e.
+fn better(lead: Lead, e: GapNumber, tag: usize, whole: i64) -> Lead
+    requires { ⌜ tag ≢ 0 ⌝ }
+    ensures { λ r. ⌜ (leadOf r ≡ Gap e (eqb tag 2)) ⊎ ((leadOf r ≡ leadOf lead) × (leadOf lead ≢ Nothing)) ⌝ }
+{
+    if lead.tag != 0 {
+        if whole <= lead.whole {
+            return lead;
         }
     }
+    Lead { tag, gap: e, whole }
 }
 
 // A product that fits.
@@ -103,8 +107,8 @@ fn consider(
     den: &[i64; 48],
 ) -> Lead
     requires { ⌜ Comparable (e .0 + 1) (now left) (now right) (now distance) (now num) (now den) ⌝ }
-    requires { ⌜ WorstOf (now left) (now right) (now distance) (now kind) (now num) (now den) (e .0) (lead .gap) ⌝ }
-    ensures { λ r. ⌜ WorstOf (now (left .entry)) (now (right .entry)) (now (distance .entry)) (now (kind .entry)) (now (num .entry)) (now (den .entry)) (e .0 + 1) (r .gap) ⌝ }
+    requires { ⌜ WorstOf (now left) (now right) (now distance) (now kind) (now num) (now den) (e .0) (leadOf lead) ⌝ }
+    ensures { λ r. ⌜ WorstOf (now (left .entry)) (now (right .entry)) (now (distance .entry)) (now (kind .entry)) (now (num .entry)) (now (den .entry)) (e .0 + 1) (leadOf r) ⌝ }
 {
     let k = e.0;
     let what = kind[k];
@@ -116,13 +120,13 @@ fn consider(
     let both = times(den[u], den[v]);
     let lack = lack_of(u, v, distance[k], num, den);
     if 0 < lack {
-        return better(lead, e, false, whole_part(lack, both));
+        return better(lead, e, 1, whole_part(lack, both));
     }
     if what == 0 {
         return lead;
     }
     if lack < 0 {
-        return better(lead, e, true, whole_part(negated(lack), both));
+        return better(lead, e, 2, whole_part(negated(lack), both));
     }
     lead
 }
@@ -141,7 +145,8 @@ pub fn worst_gap(
     ensures { λ r. ⌜ WorstOf (now (left .entry)) (now (right .entry)) (now (distance .entry)) (now (kind .entry)) (now (num .entry)) (now (den .entry)) gaps r ⌝ }
 {
     let mut lead = Lead {
-        gap: Worst::Nothing,
+        tag: 0,
+        gap: GapNumber(0),
         whole: 0,
     };
     let mut k: usize = 0;
@@ -149,5 +154,5 @@ pub fn worst_gap(
         lead = consider(GapNumber(k), lead, left, right, distance, kind, num, den);
         k += 1;
     }
-    lead.gap
+    told(lead)
 }

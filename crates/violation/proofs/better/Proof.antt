@@ -1,25 +1,18 @@
 -- `violation::better` meets its contract: gap e takes the lead, or the lead stays where it names a gap.
 use mathlib.Core.Path.{refl}
 use mathlib.Core.Logic.{inl, inr}
-use native.Mathlib.Omega.{arith}
-use borrow.Author.Needs.{needs}
+use Rattle.violation.proofs.Violation.{lead-new, lead-there}
 use Rattle.violation.proofs.better.Statement.{statement}
 use Rattle.violation.proofs.better.Tie as tie
 
-enum-told : tie.Need-enum-told
-enum-told c = search needs
-
-enum-told-2 : tie.Need-enum-told-2
-enum-told-2 c = search needs
-
 returns : tie.Need-returns
-returns c = inl refl
+returns c = inr (refl, lead-there (c .before .before .before .before .before .args .lead) (c .before .before .before .if1 .taken))
 
 returns-2 : tie.Need-returns-2
-returns-2 c = inl refl
+returns-2 c = let s = c .before .before .before .before .before in inl (lead-new (s .args .tag) (s .args .e) (s .pre))
 
 returns-3 : tie.Need-returns-3
-returns-3 c = inr (refl, λ e. omega (arith, rw e at (c .before .before .before .before .match .keys2)))
+returns-3 c = let s = c .before .before in inl (lead-new (s .args .tag) (s .args .e) (s .pre))
 
 pub better-spec : {M : Type 1} → statement M
-better-spec = tie.close (tie.spec enum-told enum-told-2 returns returns-2 returns-3)
+better-spec = tie.close (tie.spec returns returns-2 returns-3)

@@ -6,7 +6,7 @@ use borrow.Author.Needs.{needs}
 use lib.IntN.{natAbs}
 use Rattle.forest.specs.Tree.{nat, int}
 use Rattle.exact.proofs.Quotient.{kept}
-use Rattle.violation.specs.Violation.{PlaceInRange}
+use Rattle.violation.specs.Violation.{PlaceInRange, leadOf}
 use Rattle.violation.proofs.Violation.{lackAt, both-fits, both-above, distance-read, lack-known, negated-fits, ignored-next, at-least-next, exactly-next, forwards-next, backwards-next}
 use Rattle.violation.proofs.consider.Statement.{statement}
 use Rattle.violation.proofs.consider.Tie as tie
@@ -29,7 +29,7 @@ element-copy-out-what : tie.Need-element-copy-out-what
 element-copy-out-what c = search needs
 
 returns : tie.Need-returns
-returns c = let s = c .before .before in ignored-next _ _ _ _ _ _ (s .args .e) (s .args .lead .gap) (s .pre .1) (c .if1 .taken)
+returns c = let s = c .before .before in ignored-next _ _ _ _ _ _ (s .args .e) (leadOf (s .args .lead)) (s .pre .1) (c .if1 .taken)
 
 mul-u : tie.Need-mul-u
 mul-u c = search needs
@@ -74,10 +74,10 @@ better-requires : tie.Need-better-requires
 better-requires c κs = search needs
 
 returns-2 : tie.Need-returns-2
-returns-2 c = let s = c .before .before .before .before .before .before .before .before .before .before .before .before in forwards-next _ _ _ _ _ _ (s .args .e) (s .args .lead .gap) (s .pre .1) (lack-is (c .before .before .before)) (c .before .before .before .before .before .before .before .before .before .before .if1 .left) (c .before .before .if2 .taken) (c .better .result .gap) (c .better .ensures)
+returns-2 c = let s = c .before .before .before .before .before .before .before .before .before .before .before .before in forwards-next _ _ _ _ _ _ (s .args .e) (leadOf (s .args .lead)) (s .pre .1) (lack-is (c .before .before .before)) (c .before .before .before .before .before .before .before .before .before .before .if1 .left) (c .before .before .if2 .taken) (leadOf (c .better .result)) (c .better .ensures)
 
 returns-3 : tie.Need-returns-3
-returns-3 c = let s = c .before .before .before .before .before .before .before .before .before .before .before in at-least-next _ _ _ _ _ _ (s .args .e) (s .args .lead .gap) (s .pre .1) (lack-is (c .before .before)) (c .if3 .taken) (c .before .if2 .left)
+returns-3 c = let s = c .before .before .before .before .before .before .before .before .before .before .before in at-least-next _ _ _ _ _ _ (s .args .e) (leadOf (s .args .lead)) (s .pre .1) (lack-is (c .before .before)) (c .if3 .taken) (c .before .if2 .left)
 
 negated-requires : tie.Need-negated-requires
 negated-requires c κs = let s = c .before .before .before .before .before .before .before .before .before .before .before .before in negated-fits (left-in s) (right-in s) (int (s .args .distance .now) (s .args .e .0)) (distance-in s) (lack-is (c .before .before .before))
@@ -89,10 +89,10 @@ better-requires-2 : tie.Need-better-requires-2
 better-requires-2 c κs = search needs
 
 returns-4 : tie.Need-returns-4
-returns-4 c = let s = c .before .before .before .before .before .before .before .before .before .before .before .before .before .before .before in backwards-next _ _ _ _ _ _ (s .args .e) (s .args .lead .gap) (s .pre .1) (lack-is (c .before .before .before .before .before .before)) (c .before .before .before .before .before .before .before .before .before .before .before .before .before .if1 .left) (c .before .before .before .before .if3 .left) (c .before .before .before .if4 .taken) (c .better2 .result .gap) (c .better2 .ensures)
+returns-4 c = let s = c .before .before .before .before .before .before .before .before .before .before .before .before .before .before .before in backwards-next _ _ _ _ _ _ (s .args .e) (leadOf (s .args .lead)) (s .pre .1) (lack-is (c .before .before .before .before .before .before)) (c .before .before .before .before .before .before .before .before .before .before .before .before .before .if1 .left) (c .before .before .before .before .if3 .left) (c .before .before .before .if4 .taken) (leadOf (c .better2 .result)) (c .better2 .ensures)
 
 returns-5 : tie.Need-returns-5
-returns-5 c = let s = c .before .before .before .before .before .before .before .before .before .before .before .before in exactly-next _ _ _ _ _ _ (s .args .e) (s .args .lead .gap) (s .pre .1) (lack-is (c .before .before .before)) (c .before .before .before .before .before .before .before .before .before .before .if1 .left) (c .before .if3 .left) (c .before .before .if2 .left) (c .if4 .left)
+returns-5 c = let s = c .before .before .before .before .before .before .before .before .before .before .before .before in exactly-next _ _ _ _ _ _ (s .args .e) (leadOf (s .args .lead)) (s .pre .1) (lack-is (c .before .before .before)) (c .before .before .before .before .before .before .before .before .before .before .if1 .left) (c .before .if3 .left) (c .before .before .if2 .left) (c .if4 .left)
 
 pub consider-spec : {M : Type 1} → statement M
 consider-spec =

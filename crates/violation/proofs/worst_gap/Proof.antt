@@ -2,13 +2,13 @@
 use mathlib.Core.Path.{_≡_}
 use Prim.Native.Nat.{_≤_, _-_}
 use native.Mathlib.Omega.{arith}
-use Rattle.violation.specs.Violation.{WorstOf}
+use Rattle.violation.specs.Violation.{WorstOf, leadOf}
 use Rattle.violation.proofs.Violation.{comparable-first}
 use Rattle.violation.proofs.worst_gap.Statement.{statement}
 use Rattle.violation.proofs.worst_gap.Tie as tie
 
 abbrev Inv-loop : tie.InvT-loop
-Inv-loop gaps left right distance kind num den lead₀ k₀ lead k = (k ≤ gaps) × WorstOf left right distance kind num den k (lead .gap)
+Inv-loop gaps left right distance kind num den lead₀ k₀ lead k = (k ≤ gaps) × WorstOf left right distance kind num den k (leadOf lead)
 
 abbrev μ-loop : tie.MeasureT-loop
 μ-loop gaps left right distance kind num den lead₀ k₀ lead k = gaps - k
@@ -28,10 +28,15 @@ loop-less c = omega arith
 loop-again : tie.Need-loop-again Inv-loop μ-loop
 loop-again c = (omega arith, c .consider .ensures)
 
+told-requires : tie.Need-told-requires Inv-loop μ-loop
+told-requires c κs = tt
+
 returns : tie.Need-returns Inv-loop μ-loop
-returns c = let e : c .before .loop .k ≡ c .before .before .args .gaps = omega arith in rw e at (c .before .loop .inv .1)
+returns c =
+    let e : c .before .before .loop .k ≡ c .before .before .before .args .gaps = omega arith in
+    rw (c .told .ensures) (rw e at (c .before .before .loop .inv .1))
 
 pub worst-gap-spec : {M : Type 1} → statement M
 worst-gap-spec =
     tie.close
-    (tie.spec Inv-loop μ-loop loop-holds consider-requires add-k loop-less loop-again returns)
+    (tie.spec Inv-loop μ-loop loop-holds consider-requires add-k loop-less loop-again told-requires returns)

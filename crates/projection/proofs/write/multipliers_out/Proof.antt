@@ -23,20 +23,20 @@ abbrev μ-loop : tie.MeasureT-loop
 loop-holds : tie.Need-loop-holds Inv-loop μ-loop
 loop-holds c = (omega arith, reduced-start _ _ _ _)
 
-mul-lowest : tie.Need-mul-lowest Inv-loop μ-loop
-mul-lowest c = omega arith
+mul-reduced : tie.Need-mul-reduced Inv-loop μ-loop
+mul-reduced c = omega arith
 
-element-copy-out-lowest : tie.Need-element-copy-out-lowest Inv-loop μ-loop
-element-copy-out-lowest c = omega arith
+element-copy-out-reduced : tie.Need-element-copy-out-reduced Inv-loop μ-loop
+element-copy-out-reduced c = omega arith
 
-mul-lowest-2 : tie.Need-mul-lowest-2 Inv-loop μ-loop
-mul-lowest-2 c = omega arith
+mul-reduced-2 : tie.Need-mul-reduced-2 Inv-loop μ-loop
+mul-reduced-2 c = omega arith
 
-element-copy-out-lowest-2 : tie.Need-element-copy-out-lowest-2 Inv-loop μ-loop
-element-copy-out-lowest-2 c = omega arith
+element-copy-out-reduced-2 : tie.Need-element-copy-out-reduced-2 Inv-loop μ-loop
+element-copy-out-reduced-2 c = omega arith
 
-lowest-requires : tie.Need-lowest-requires Inv-loop μ-loop
-lowest-requires c κs =
+reduced-requires : tie.Need-reduced-requires Inv-loop μ-loop
+reduced-requires c κs =
     let d = int (c .before .before .before .before .args .den .now) (c .before .before .before .loop .k) in
     let e : toZ w64 (ofZ w64 d) ≡ d = search needs in
     rw e (above-zero (c .before .before .before .before .pre .3 (c .before .before .before .loop .k) (c .before .before .loop-test .taken)))
@@ -63,12 +63,12 @@ loop-again : tie.Need-loop-again Inv-loop μ-loop
 loop-again c =
     let s = c .before .before .before .before .before .before .before in
     let w = c .before .before .before .before .before .before .loop in
-    let q = c .before .before .lowest .result in
+    let q = c .before .before .reduced .result in
     let num : toZ w64 (ofZ w64 (int (s .args .num .now) (w .k))) ≡ int (s .args .num .now) (w .k) = search needs in
     let den : toZ w64 (ofZ w64 (int (s .args .den .now) (w .k))) ≡ int (s .args .den .now) (w .k) = search needs in
     let top : toZ w64 (ofZ w64 (q .num)) ≡ q .num = search needs in
     let bottom : toZ w64 (ofZ w64 (q .den)) ≡ q .den = search needs in
-    let r : Reduced (fraction (s .args .num .now) (s .args .den .now) (w .k)) q = rw (num, den) at (c .before .before .lowest .ensures) in
+    let r : Reduced (fraction (s .args .num .now) (s .args .den .now) (w .k)) q = rw (num, den) at (c .before .before .reduced .ensures) in
     (omega arith, rw (top, bottom) (reduced-turn q (w .inv .1) (omega arith) (omega arith) r))
 
 same-length : tie.Need-same-length Inv-loop μ-loop
@@ -87,11 +87,11 @@ multipliers-out-spec =
     Inv-loop
     μ-loop
     loop-holds
-    mul-lowest
-    element-copy-out-lowest
-    mul-lowest-2
-    element-copy-out-lowest-2
-    lowest-requires
+    mul-reduced
+    element-copy-out-reduced
+    mul-reduced-2
+    element-copy-out-reduced-2
+    reduced-requires
     mul-top
     slice-set-from-top
     mul-bottom
