@@ -1,9 +1,8 @@
 //! The sheets on the bench, with the answers that document 01 gives.
-use crate::call::{check_call, Lent, Outcome};
+use crate::call::{check_call, refused_at, Lent, Outcome};
 use crate::fraction::Fraction;
 use crate::sheet::Sheet;
 use crate::solver;
-use dirmoog::{Answer, Refusal};
 
 /// Labels with weights 1, and gaps.
 fn plain(wanted: &[i64], gaps: &[(usize, usize, i64)]) -> Sheet {
@@ -21,15 +20,7 @@ fn checked(sheet: &Sheet) -> Outcome {
 fn refused(sheet: &Sheet, number: u64, place: u64) {
     assert_eq!(checked(sheet), Outcome::Refused(number));
     let answer = Lent::zeros(sheet.labels(), sheet.gaps()).call(sheet);
-    let ring = 0;
-    assert_eq!(
-        answer,
-        Answer::Refused(Refusal {
-            number,
-            place,
-            ring
-        })
-    );
+    assert_eq!(answer, refused_at(number, place));
 }
 
 /// Placed, by the solver and by the library, at these places.

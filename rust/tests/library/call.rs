@@ -111,20 +111,22 @@ fn fractions(nums: &[i64], dens: &[i64]) -> Vec<Fraction> {
         .collect()
 }
 
+/// A refusal by the table, which tells no ring.
+pub fn refused_at(number: u64, place: u64) -> Answer {
+    let ring = 0;
+    Answer::Refused(Refusal {
+        number,
+        place,
+        ring,
+    })
+}
+
 /// Calls the library and checks its answer and every lent entry afterwards against the parts beside it.
 pub fn check_call(sheet: &Sheet, before: &Lent) -> Outcome {
     let mut after = before.clone();
     let answer = after.call(sheet);
     if let Some((number, place)) = refusals::table(sheet, before) {
-        let ring = 0;
-        assert_eq!(
-            answer,
-            Answer::Refused(Refusal {
-                number,
-                place,
-                ring
-            })
-        );
+        assert_eq!(answer, refused_at(number, place));
         assert_eq!(after, *before);
         return Outcome::Refused(number);
     }
