@@ -1,10 +1,11 @@
 -- Divisors: Euclid's step, Gauss's lemma, and fractions in lowest terms, which are unique.
 use mathlib.Core.Path.{_≡_, refl, sym, _∙_, ap, subst}
+use mathlib.Core.Logic.{_⊎_, inl, inr}
 use mathlib.Core.Bool.{true, false}
 use mathlib.Core.List.{[], _∷_}
-use Prim.Native.Nat.{ℕ, zero, suc, _+_, _*_, _/_, _%_, _≤_, _<_, _^_, _∣_}
+use Prim.Native.Nat.{ℕ, zero, suc, _+_, _-_, _*_, _/_, _%_, _≤_, _<_, _^_, _∣_}
 use native.Mathlib.Omega.{arith}
-use native.Mathlib.Nat.{dvd-refl, dvd-zero, dvd-mul-left, dvd-mul-right, dvd-trans, dvd-mul-left-of-dvd, one-dvd, dvd-add-iff-left, dvd-mod-iff, dvd-antisymm, pos-of-dvd-of-pos, le-of-dvd, mod-lt, mod-add-div', mul-dvd-mul-left, mul-dvd-mul-right, dvd-of-mul-dvd-mul-left, eq-one-of-dvd-one, mul-div-cancel', div-le-self}
+use native.Mathlib.Nat.{dvd-refl, dvd-zero, dvd-mul-left, dvd-mul-right, dvd-trans, dvd-mul-left-of-dvd, one-dvd, dvd-add-iff-left, dvd-add-iff-right, dvd-mod-iff, dvd-antisymm, pos-of-dvd-of-pos, le-of-dvd, mod-lt, mod-add-div', mul-dvd-mul-left, mul-dvd-mul-right, dvd-of-mul-dvd-mul-left, eq-one-of-dvd-one, mul-div-cancel', div-le-self}
 use lib.IntN.{ℤ, pos, negsuc, negℤ, natAbs, _-ℤ_, _*ℤ_, *ℤ-comm, *ℤ-zero, +ℤ-idl}
 use lib.Signed.{_<ℤ_, ltZ, nonNeg, mag, mag-rem, quotZ, remZ}
 use lib.Dec.{T}
@@ -14,20 +15,33 @@ use mir.Val.{SFits, toZ, ofZ}
 use mir.ValLaws.{sfits-le, toZ-ofZ}
 use Rattle.exact.specs.declared.Fraction.{Fraction}
 use Rattle.exact.specs.Fraction.{_≃_, LowestTerms, Reduced}
-use Rattle.exact.specs.Divide.{GreatestCommonDivisor}
-use Rattle.exact.proofs.Whole.{pp-*, nn-*, pp-neg, nn-neg, parts-natAbs, by-parts, lt-parts, *ℤ-cancel, *ℤ-lt-cancel}
+use Rattle.exact.specs.Divide.{GreatestCommonDivisor, IsDivisor}
+use Rattle.exact.proofs.Whole.{pp-*, nn-*, pp-neg, nn-neg, parts-natAbs, by-parts, lt-parts, parts-lt, *ℤ-cancel, *ℤ-lt-cancel}
 use Rattle.exact.proofs.Ring.{ring, quotes}
 
 -- ---- natural numbers
 
 -- Euclid's step keeps the greatest common divisor, and its end shows it
-pub gcd-step : {x y g : ℕ} → GreatestCommonDivisor y (x % y) g → GreatestCommonDivisor x y g
+gcd-step : {x y g : ℕ} → GreatestCommonDivisor y (x % y) g → GreatestCommonDivisor x y g
 gcd-step {x} {y} {g} c =
     record {
       left = dvd-mod-iff g (c .left) .0 (c .right);
       right = c .left;
       greatest = λ k p q. c .greatest k q (dvd-mod-iff k q .1 p);
     }
+
+-- and so does the step to the nearer multiple: with their sum, two numbers have the same divisors
+gcd-part : {y a b g : ℕ} → a + b ≡ y → GreatestCommonDivisor y b g → GreatestCommonDivisor y a g
+gcd-part {y} {a} {b} {g} e c =
+    record {
+      left = c .left;
+      right = dvd-add-iff-left g (c .right) .1 (rw e (c .left));
+      greatest = λ k p q. c .greatest k p (dvd-add-iff-right k q .1 (rw e p));
+    }
+
+pub gcd-nearer : {x y r g : ℕ} → x % y ≤ y → (r ≡ x % y) ⊎ (r ≡ y - x % y) → GreatestCommonDivisor y r g → GreatestCommonDivisor x y g
+gcd-nearer h (inl e) c = gcd-step (rw e at c)
+gcd-nearer {x} {y} h (inr e) c = gcd-step (gcd-part {b = y - x % y} (omega arith) (rw e at c))
 
 gcd-unstep : {x y g : ℕ} → GreatestCommonDivisor x y g → GreatestCommonDivisor y (x % y) g
 gcd-unstep {x} {y} {g} c =
@@ -36,6 +50,9 @@ gcd-unstep {x} {y} {g} c =
       right = dvd-mod-iff g (c .right) .1 (c .left);
       greatest = λ k p q. c .greatest k (dvd-mod-iff k p .0 q) p;
     }
+
+gcd-swap : {a b g : ℕ} → GreatestCommonDivisor a b g → GreatestCommonDivisor b a g
+gcd-swap c = record { left = c .right; right = c .left; greatest = λ k p q. c .greatest k q p }
 
 pub gcd-end : (x : ℕ) → GreatestCommonDivisor x 0 x
 gcd-end x = record { left = dvd-refl x; right = dvd-zero x; greatest = λ k p q. p }
@@ -122,6 +139,10 @@ pub natAbs-of-fits : (z : ℤ) → pos 0 <ℤ z → SFits w64 z → natAbs z < 2
 natAbs-of-fits (pos n) h f = f .sfits
 natAbs-of-fits (negsuc n) h f = absurd (h .lt)
 
+-- numbers of the same bits are the same
+pub same-bits : {w : Width} {a b : ℤ} → SFits w a → SFits w b → ofZ w a ≡ ofZ w b → a ≡ b
+same-bits {w} {a} {b} fa fb e = sym (toZ-ofZ w a fa) ∙ ap (toZ w) e ∙ toZ-ofZ w b fb
+
 -- the machine divides what it reads back from the bits of two numbers that fit: what that asks, and what it gives
 module _ {w : Width} {z d : ℤ} (fz : SFits w z) (fd : SFits w d) (h : pos 0 <ℤ d) where
   quot-read : quotZ (toZ w (ofZ w z)) (toZ w (ofZ w d)) ≡ quotZ z d
@@ -139,12 +160,22 @@ module _ {w : Width} {z d : ℤ} (fz : SFits w z) (fd : SFits w d) (h : pos 0 <�
   pub rem-gives : toZ w (ofZ w (remZ (toZ w (ofZ w z)) (toZ w (ofZ w d)))) ≡ remZ z d
   rem-gives = toZ-ofZ w _ (subst (SFits w) (sym rem-read) (sfits-le (mag-rem z d) fz)) ∙ rem-read
 
--- the greatest common divisor of a number and a number above zero, from the second and the remainder
-pub gcd-rem : (z d : ℤ) {a b g : ℕ} → a ≡ natAbs d → b ≡ natAbs (remZ z d) → GreatestCommonDivisor a b g → GreatestCommonDivisor (natAbs z) (natAbs d) g
-gcd-rem z d ea eb c = gcd-step (rw (← natAbs-rem z d, ← ea, ← eb) c)
+-- what divides a number above zero is above zero, and no larger
+pub gcd-bounds : {a b g : ℕ} → 0 < a → GreatestCommonDivisor a b g → (0 < g) × (g ≤ a)
+gcd-bounds h c = (pos-of-dvd-of-pos (c .left) h, le-of-dvd h (c .left))
 
-pub gcd-bounds : {a b g : ℕ} → 0 < b → GreatestCommonDivisor a b g → (0 < g) × (g ≤ b)
-gcd-bounds h c = (pos-of-dvd-of-pos (c .right) h, le-of-dvd h (c .right))
+-- the divisor of a denominator above zero and a remainder, from their magnitudes
+pub is-divisor : {den rest : ℤ} {a b g : ℕ} → pos 0 <ℤ den → a ≡ natAbs den → b ≡ natAbs rest → GreatestCommonDivisor a b g → IsDivisor (record { den = den; rest = rest; common = pos g })
+is-divisor {den} {rest} {a} {b} {g} h ea eb c =
+    record {
+      above = h;
+      positive = parts-lt {a = pos 0} {b = pos g} (omega (arith, gcd-bounds (rw ea (natAbs-above h)) c));
+      divides = rw (← ea, ← eb) (gcd-swap c);
+    }
+
+-- it divides the numerator too
+pub gcd-rem : (z d : ℤ) {g : ℕ} → GreatestCommonDivisor (natAbs (remZ z d)) (natAbs d) g → GreatestCommonDivisor (natAbs z) (natAbs d) g
+gcd-rem z d c = gcd-step (gcd-swap (rw (natAbs-rem z d) at c))
 
 -- ---- fractions
 

@@ -4,6 +4,7 @@ use mathlib.Core.Bool.{cond}
 use lib.IntN.{ℤ, pos, natAbs, _*ℤ_}
 use lib.Signed.{_<ℤ_, _≤ℤ_, ltZ}
 use Rattle.exact.specs.declared.Fraction.{Fraction}
+use Rattle.exact.specs.declared.known.Divisor.{Divisor}
 use Rattle.exact.specs.declared.Order.{Order}
 use Rattle.exact.specs.declared.Order.the-variants.{Below, Same, Above}
 
@@ -12,6 +13,12 @@ pub record GreatestCommonDivisor (a b g : ℕ) : Type 0 where
   pub left : g ∣ a
   pub right : g ∣ b
   pub greatest : (k : ℕ) → k ∣ a → k ∣ b → k ∣ g
+
+-- a denominator above zero, a remainder by it, and the greatest common divisor of the two
+pub record IsDivisor (d : Divisor) : Type 0 where
+  pub above : pos 0 <ℤ d .den
+  pub positive : pos 0 <ℤ d .common
+  pub divides : GreatestCommonDivisor (natAbs (d .rest)) (natAbs (d .den)) (natAbs (d .common))
 
 -- where a whole number stands to another
 unfoldable pub orderZ : ℤ → ℤ → Order

@@ -1,13 +1,23 @@
 // The greatest common divisor, and fractions in lowest terms.
 use crate::Fraction;
+use crate::known::Divisor;
+use crate::known::no_divisor;
 ghost use mathlib.Core.Path.{_≡_};
-ghost use Prim.Native.Nat.{_<_, _^_};
+ghost use mathlib.Core.Logic.{_⊎_};
+ghost use Prim.Native.Nat.{_<_, _≤_, _^_};
 ghost use lib.IntN.{pos, natAbs};
 ghost use lib.Signed.{_<ℤ_, quotZ, remZ};
 ghost use Rattle.exact.specs.Fraction.{Reduced};
-ghost use Rattle.exact.specs.Divide.{GreatestCommonDivisor};
+ghost use Rattle.exact.specs.Divide.{GreatestCommonDivisor, IsDivisor};
 
-// The greatest common divisor, by Euclid's remainders.
+// The smaller of two numbers.
+fn nearer(a: u64, b: u64) -> u64
+    ensures { λ r. ⌜ (r ≤ a) × (r ≤ b) × ((r ≡ a) ⊎ (r ≡ b)) ⌝ }
+{
+    if a < b { a } else { b }
+}
+
+// The greatest common divisor, by Euclid's remainders. Each is taken to the nearer multiple, so that y at least halves at every turn.
 pub fn gcd(a: u64, b: u64) -> u64
     ensures { λ r. ⌜ GreatestCommonDivisor a b r ⌝ }
 {
@@ -16,7 +26,7 @@ pub fn gcd(a: u64, b: u64) -> u64
     while y != 0 {
         let rest = x % y;
         x = y;
-        y = rest;
+        y = nearer(rest, y - rest);
     }
     x
 }
@@ -45,13 +55,38 @@ fn remainder(num: i64, den: i64) -> i64
     num % den
 }
 
-// The greatest common divisor of a numerator and a denominator above zero. The remainder stands in for the numerator, so that no magnitude overflows.
-fn common(num: i64, den: i64) -> i64
-    requires { ⌜ pos 0 <ℤ den ⌝ }
-    ensures { λ r. ⌜ (pos 0 <ℤ r) × GreatestCommonDivisor (natAbs num) (natAbs den) (natAbs r) ⌝ }
+// The divisor of a fraction: the one known before, where denominator and remainder are the same. The remainder stands in for the numerator,
+// so that no magnitude overflows.
+pub fn divisor(num: i64, den: i64, before: Divisor) -> Divisor
+    requires { ⌜ (pos 0 <ℤ den) × IsDivisor before ⌝ }
+    ensures { λ r. ⌜ IsDivisor r × (r .den ≡ den) × (r .rest ≡ remZ num den) ⌝ }
 {
     let rest = remainder(num, den);
-    gcd(magnitude(den), magnitude(rest)) as i64
+    if den == before.den {
+        if rest == before.rest {
+            return before;
+        }
+    }
+    Divisor {
+        den,
+        rest,
+        common: gcd(magnitude(den), magnitude(rest)) as i64,
+    }
+}
+
+// The same fraction in lowest terms, by its divisor. By 1 nothing is divided.
+pub fn lowest_by(num: i64, den: i64, d: Divisor) -> Fraction
+    requires { ⌜ IsDivisor d × (d .den ≡ den) × (d .rest ≡ remZ num den) ⌝ }
+    ensures { λ r. ⌜ Reduced (record { num = num; den = den }) r ⌝ }
+{
+    let g = d.common;
+    if g == 1 {
+        return Fraction { num, den };
+    }
+    Fraction {
+        num: quotient(num, g),
+        den: quotient(den, g),
+    }
 }
 
 // The same fraction in lowest terms.
@@ -59,9 +94,5 @@ pub fn lowest(num: i64, den: i64) -> Fraction
     requires { ⌜ pos 0 <ℤ den ⌝ }
     ensures { λ r. ⌜ Reduced (record { num = num; den = den }) r ⌝ }
 {
-    let g = common(num, den);
-    Fraction {
-        num: quotient(num, g),
-        den: quotient(den, g),
-    }
+    lowest_by(num, den, divisor(num, den, no_divisor()))
 }

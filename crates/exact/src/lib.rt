@@ -1,6 +1,7 @@
 // Exact fractions: lowest terms, comparison and rounding in whole numbers of 64 bits.
 pub mod compare;
 pub mod divide;
+pub mod known;
 pub mod round;
 
 // A whole number over a whole number above zero.

@@ -1,4 +1,5 @@
 // One outer step: the push of a gap that does not hold grows until the gap is tight, or a ring shows.
+use forest::chain::chain;
 use least_move::GapNumber;
 use least_move::Label;
 use step::Outcome;
@@ -47,6 +48,21 @@ pub(crate) fn raise(
 {
     whole(mark);
     let k = c.0;
+    // A gap that is dropped may stay in the chains: a search passes none that is not marked.
+    let mut out_head = [0u8; 48];
+    let mut out_next = [0u8; 192];
+    let mut in_head = [0u8; 48];
+    let mut in_next = [0u8; 192];
+    chain(
+        gaps,
+        left,
+        right,
+        mark,
+        &mut out_head,
+        &mut out_next,
+        &mut in_head,
+        &mut in_next,
+    );
     loop {
         let outcome = advance(
             labels,
@@ -54,6 +70,10 @@ pub(crate) fn raise(
             a,
             b,
             h,
+            &out_head,
+            &out_next,
+            &in_head,
+            &in_next,
             left,
             right,
             distance,

@@ -1,9 +1,8 @@
 // The outer loop.
 use crate::Turn;
 use crate::outer::turn;
-use placing::place_all;
 ghost use Rattle.step.specs.Problem.{Limits};
-ghost use Rattle.method.specs.Settle.{Startable, SettleSays};
+ghost use Rattle.method.specs.Settle.{Standing, SettleSays};
 
 // Takes outer steps until every gap holds (0), or a ring of so many gaps was written.
 pub fn settle(
@@ -28,26 +27,9 @@ pub fn settle(
     held: &mut [i64; 48],
     share: &mut [i64; 48],
 ) -> usize
-    requires { ⌜ Limits (record { labels = labels; gaps = gaps; left = now left; right = now right; distance = now distance; kind = now kind; wanted = now wanted; weight = now weight }) × Startable (record { labels = labels; gaps = gaps; left = now left; right = now right; distance = now distance; kind = now kind; wanted = now wanted; weight = now weight }) (now mark) ⌝ }
+    requires { ⌜ Limits (record { labels = labels; gaps = gaps; left = now left; right = now right; distance = now distance; kind = now kind; wanted = now wanted; weight = now weight }) × Standing (record { labels = labels; gaps = gaps; left = now left; right = now right; distance = now distance; kind = now kind; wanted = now wanted; weight = now weight }) (now mark) (now num) (now den) ⌝ }
     ensures { λ r. ⌜ SettleSays (record { labels = labels; gaps = gaps; left = now (left .entry); right = now (right .entry); distance = now (distance .entry); kind = now (kind .entry); wanted = now (wanted .entry); weight = now (weight .entry) }) r (now (mark .exit)) (now (num .exit)) (now (den .exit)) (now (ring .exit)) (now (back .exit)) ⌝ }
 {
-    place_all(
-        labels,
-        gaps,
-        left,
-        right,
-        distance,
-        mark,
-        wanted,
-        weight,
-        at,
-        queue,
-        via,
-        up,
-        off,
-        num,
-        den,
-    );
     loop {
         let next = turn(
             labels,

@@ -2,34 +2,8 @@
 use balance::balance_all;
 use method::settle::settle;
 use proposal::propose;
-use violation::Worst;
-use violation::worst_gap;
-ghost use mathlib.Core.Path.{_≡_};
-ghost use mathlib.Core.Bool.{true};
-ghost use Prim.Native.Nat.{ℕ, _<_};
 ghost use Rattle.step.specs.Problem.{Limits};
-ghost use Rattle.violation.specs.Violation.{Comparable, GapHolds};
 ghost use Rattle.projection.specs.Core.{CoreSays};
-
-// Whether every gap holds where the labels stand.
-fn all_held(
-    gaps: usize,
-    left: &[usize; 192],
-    right: &[usize; 192],
-    distance: &[i64; 192],
-    kind: &[u8; 192],
-    num: &[i64; 48],
-    den: &[i64; 48],
-) -> bool
-    requires { ⌜ Comparable gaps (now left) (now right) (now distance) (now num) (now den) ⌝ }
-    ensures { λ r. ⌜ (r ≡ true → (e : ℕ) → e < gaps → GapHolds (now (left .entry)) (now (right .entry)) (now (distance .entry)) (now (kind .entry)) (now (num .entry)) (now (den .entry)) e) ⌝ }
-{
-    let worst = worst_gap(gaps, left, right, distance, kind, num, den);
-    match worst {
-        Worst::Nothing => true,
-        Worst::Gap(_, _) => false,
-    }
-}
 
 // Lays the labels out. Gives 0 where every gap holds: label i stands at num[i] over den[i], gap e has the multiplier load[e] over over[e] and
 // is marked where mark[e] is 1. Otherwise a ring of so many gaps stands in the front of ring, with 1 in back for a gap passed backwards.
@@ -64,7 +38,7 @@ pub(crate) fn solve(
     let mut share = [0i64; 48];
     let mut num2 = [0i64; 48];
     let mut den2 = [0i64; 48];
-    propose(
+    if propose(
         labels,
         gaps,
         left,
@@ -86,8 +60,7 @@ pub(crate) fn solve(
         den,
         load,
         over,
-    );
-    if all_held(gaps, left, right, distance, kind, num, den) {
+    ) {
         return 0;
     }
     let size = settle(

@@ -1,6 +1,9 @@
 // Results written to the front of lent lists.
 use exact::Fraction;
+use exact::divide::divisor;
 use exact::divide::lowest;
+use exact::divide::lowest_by;
+use exact::known::no_divisor;
 ghost use Prim.Native.Nat.{ℕ, _<_, _≤_};
 ghost use lib.ListN.{length};
 ghost use lib.IntN.{pos};
@@ -20,7 +23,7 @@ fn reduced(num: i64, den: i64) -> Fraction
     lowest(num, den)
 }
 
-// Writes the places in lowest terms.
+// Writes the places in lowest terms. Those of one block share the divisor.
 pub(crate) fn places_out(
     count: usize,
     num: &[i64; 48],
@@ -31,9 +34,13 @@ pub(crate) fn places_out(
     requires { ⌜ (count ≤ 48) × (count ≤ length (now upper)) × (count ≤ length (now lower)) × ((k : ℕ) → k < count → pos 1 ≤ℤ int (now den) k) ⌝ }
     ensures { λ _. ⌜ FractionsWritten count (now (num .entry)) (now (den .entry)) (now (upper .entry)) (now (lower .entry)) (now (upper .exit)) (now (lower .exit)) ⌝ }
 {
+    let mut known = no_divisor();
     let mut k: usize = 0;
     while k < count {
-        let q = reduced(num[k], den[k]);
+        let n = num[k];
+        let d = den[k];
+        known = divisor(n, d, known);
+        let q = lowest_by(n, d, known);
         let top = q.num;
         let bottom = q.den;
         upper[k] = top;

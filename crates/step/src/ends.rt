@@ -7,12 +7,13 @@ use elimination::block::sums;
 use elimination::block::surplus;
 use elimination::eliminate::eliminate;
 use elimination::measured;
-use forest::search::search;
+use forest::search::search_along;
 use least_move::Label;
 ghost use mathlib.Core.Path.{_≡_};
 ghost use mathlib.Core.Logic.{_⊎_};
 ghost use Prim.Native.Nat.{_<_};
 ghost use lib.IntN.{pos, negsuc};
+ghost use Rattle.forest.specs.Chain.{Chained};
 ghost use Rattle.step.specs.Problem.{Problem, Limits};
 ghost use Rattle.step.specs.Side.{SideFound};
 ghost use Rattle.step.specs.Shares.{Shared};
@@ -47,6 +48,10 @@ pub(crate) fn side(
     root: Label,
     other: Label,
     sign: i64,
+    out_head: &[u8; 48],
+    out_next: &[u8; 192],
+    in_head: &[u8; 48],
+    in_next: &[u8; 192],
     left: &[usize; 192],
     right: &[usize; 192],
     distance: &[i64; 192],
@@ -62,13 +67,17 @@ pub(crate) fn side(
     held: &mut [i64; 48],
     share: &mut [i64; 48],
 ) -> Side
-    requires { ⌜ Limits (record { labels = labels; gaps = gaps; left = now left; right = now right; distance = now distance; kind = now kind; wanted = now wanted; weight = now weight }) × (root .0 < labels) × (other .0 < labels) × ((sign ≡ pos 1) ⊎ (sign ≡ negsuc 0)) ⌝ }
+    requires { ⌜ Limits (record { labels = labels; gaps = gaps; left = now left; right = now right; distance = now distance; kind = now kind; wanted = now wanted; weight = now weight }) × (root .0 < labels) × (other .0 < labels) × ((sign ≡ pos 1) ⊎ (sign ≡ negsuc 0)) × Chained gaps (now left) (now mark) (now «out_head») (now «out_next») × Chained gaps (now right) (now mark) (now «in_head») (now «in_next») ⌝ }
     ensures { λ r. ⌜ SideFound (record { labels = labels; gaps = gaps; left = now (left .entry); right = now (right .entry); distance = now (distance .entry); kind = now (kind .entry); wanted = now (wanted .entry); weight = now (weight .entry) }) (now (mark .entry)) (root .0) (other .0) sign r (now (at .exit)) (now (queue .exit)) (now (via .exit)) (now (up .exit)) (now (off .exit)) (now (held .exit)) (now (share .exit)) ⌝ }
 {
-    let count = search(
+    let count = search_along(
         labels,
         gaps,
         root,
+        out_head,
+        out_next,
+        in_head,
+        in_next,
         left,
         right,
         distance,

@@ -1,15 +1,13 @@
 -- The outer loop. The invariant: the marks are a forest in balance, and the labels stand where it puts them. The measure falls as the cost grows.
 use mathlib.Core.Path.{_≡_, subst}
-use mathlib.Core.List.{[]}
 use borrow.Author.Needs.{needs}
 use Rattle.least_move.proofs.Ending.{measure}
 use Rattle.forest.specs.Tree.{int}
 use Rattle.step.specs.Problem.{Problem, numbersOf}
-use Rattle.placing.proofs.Placing.{limits-kind}
 use Rattle.method.specs.declared.Turn.{Turn}
 use Rattle.method.specs.declared.Turn.the-variants.{Done, Again, Ring}
 use Rattle.method.specs.Settle.{Standing, TurnSays}
-use Rattle.method.proofs.Turning.{standing, settle-ring}
+use Rattle.method.proofs.Turning.{settle-ring}
 use Rattle.method.proofs.settle.settle.Statement.{statement}
 use Rattle.method.proofs.settle.settle.Tie as tie
 
@@ -34,14 +32,11 @@ problem s =
       weight = s .args .weight .now;
     }
 
-place-all-requires : tie.Need-place-all-requires Inv-loop μ-loop
-place-all-requires c κs = limits-kind [] (c .before .before .before .before .before .before .before .before .pre .0)
-
 loop-holds : tie.Need-loop-holds Inv-loop μ-loop
-loop-holds c = standing (c .place-all .last .1 .1 .1 .1 .1 .1 .1 .1 .1 .1 .1 .1 .1 .0) (c .place-all .last .1 .1 .1 .1 .1 .1 .1 .1 .1 .1 .1 .1 .1 .1 .0) (c .before .before .before .before .before .before .before .before .before .pre .1) (c .place-all .ensures)
+loop-holds c = c .pre .1
 
 abbrev start : tie.At-loop Inv-loop μ-loop → tie.Start Inv-loop μ-loop
-start c = c .before .before .before .before .before .before .before .before .before .before
+start c = c .before
 
 turn-requires : tie.Need-turn-requires Inv-loop μ-loop
 turn-requires c κs =
@@ -87,7 +82,6 @@ settle-spec =
     (tie.spec
     Inv-loop
     μ-loop
-    place-all-requires
     loop-holds
     turn-requires
     enum-told

@@ -31,18 +31,18 @@ limits s = s .pre
 -- ---- what the calls leave
 
 proposed : (c : tie.After-propose) → Proposed (problem (c .before .before .before .before .before .before .before .before .before .before .before .before .before)) (c .propose .last .1 .1 .1 .1 .1 .1 .1 .1 .1 .0) (c .propose .last .1 .1 .1 .1 .1 .1 .1 .1 .1 .1 .1 .1 .1 .1 .1 .1 .1 .0) (c .propose .last .1 .1 .1 .1 .1 .1 .1 .1 .1 .1 .1 .1 .1 .1 .1 .1 .1 .1 .0) (c .propose .last .1 .1 .1 .1 .1 .1 .1 .1 .1 .1 .1 .1 .1 .1 .1 .1 .1 .1 .1 .0) (c .propose .last .1 .1 .1 .1 .1 .1 .1 .1 .1 .1 .1 .1 .1 .1 .1 .1 .1 .1 .1 .1 .0)
-proposed c = c .propose .ensures
+proposed c = c .propose .ensures .0
 
 proposed-stands : (c : tie.After-propose) → Standing (problem (c .before .before .before .before .before .before .before .before .before .before .before .before .before)) (c .propose .last .1 .1 .1 .1 .1 .1 .1 .1 .1 .0) (c .propose .last .1 .1 .1 .1 .1 .1 .1 .1 .1 .1 .1 .1 .1 .1 .1 .1 .1 .0) (c .propose .last .1 .1 .1 .1 .1 .1 .1 .1 .1 .1 .1 .1 .1 .1 .1 .1 .1 .1 .0)
 proposed-stands c = turning.standing (c .propose .last .1 .1 .1 .1 .1 .1 .1 .1 .1 .1 .1 .1 .1 .1 .1 .1 .1 .0) (c .propose .last .1 .1 .1 .1 .1 .1 .1 .1 .1 .1 .1 .1 .1 .1 .1 .1 .1 .1 .0) (proposed c .start) (proposed c .found)
 
-settled : (c : tie.After-settle) → SettleSays (problem (c .before .before .before .before .before .before .before .before .before .before .before .before .before .before .before .before .before .before .before .before .before .before .before .before .before .before .before .before .before .before)) (c .settle .result) (c .settle .last .1 .1 .1 .1 .1 .1 .0) (c .settle .last .1 .1 .1 .1 .1 .1 .1 .1 .1 .0) (c .settle .last .1 .1 .1 .1 .1 .1 .1 .1 .1 .1 .0) (c .settle .last .1 .1 .1 .1 .1 .1 .1 .1 .1 .1 .1 .0) (c .settle .last .1 .1 .1 .1 .1 .1 .1 .1 .1 .1 .1 .1 .0)
+settled : (c : tie.After-settle) → SettleSays (problem (c .before .before .before .before .before .before .before .before .before .before .before .before .before .before .before .before .before .before .before .before .before .before .before .before .before .before .before)) (c .settle .result) (c .settle .last .1 .1 .1 .1 .1 .1 .0) (c .settle .last .1 .1 .1 .1 .1 .1 .1 .1 .1 .0) (c .settle .last .1 .1 .1 .1 .1 .1 .1 .1 .1 .1 .0) (c .settle .last .1 .1 .1 .1 .1 .1 .1 .1 .1 .1 .1 .0) (c .settle .last .1 .1 .1 .1 .1 .1 .1 .1 .1 .1 .1 .1 .0)
 settled c = c .settle .ensures
 
-standing : (c : tie.Else2) → Standing (problem (c .before .before .before .before .before .before .before .before .before .before .before .before .before .before .before .before .before .before .before .before .before .before .before .before .before .before .before .before .before .before .before)) (c .before .settle .last .1 .1 .1 .1 .1 .1 .0) (c .before .settle .last .1 .1 .1 .1 .1 .1 .1 .1 .1 .0) (c .before .settle .last .1 .1 .1 .1 .1 .1 .1 .1 .1 .1 .0) × AllHold (problem (c .before .before .before .before .before .before .before .before .before .before .before .before .before .before .before .before .before .before .before .before .before .before .before .before .before .before .before .before .before .before .before)) (c .before .settle .last .1 .1 .1 .1 .1 .1 .1 .1 .1 .0) (c .before .settle .last .1 .1 .1 .1 .1 .1 .1 .1 .1 .1 .0)
-standing c = all-hold (problem (c .before .before .before .before .before .before .before .before .before .before .before .before .before .before .before .before .before .before .before .before .before .before .before .before .before .before .before .before .before .before .before)) (c .before .settle .result) (c .before .settle .last .1 .1 .1 .1 .1 .1 .0) (c .before .settle .last .1 .1 .1 .1 .1 .1 .1 .1 .1 .0) (c .before .settle .last .1 .1 .1 .1 .1 .1 .1 .1 .1 .1 .0) (c .before .settle .last .1 .1 .1 .1 .1 .1 .1 .1 .1 .1 .1 .0) (c .before .settle .last .1 .1 .1 .1 .1 .1 .1 .1 .1 .1 .1 .1 .0) (c .if2 .left) (settled (c .before))
+standing : (c : tie.Else2) → Standing (problem (c .before .before .before .before .before .before .before .before .before .before .before .before .before .before .before .before .before .before .before .before .before .before .before .before .before .before .before .before)) (c .before .settle .last .1 .1 .1 .1 .1 .1 .0) (c .before .settle .last .1 .1 .1 .1 .1 .1 .1 .1 .1 .0) (c .before .settle .last .1 .1 .1 .1 .1 .1 .1 .1 .1 .1 .0) × AllHold (problem (c .before .before .before .before .before .before .before .before .before .before .before .before .before .before .before .before .before .before .before .before .before .before .before .before .before .before .before .before)) (c .before .settle .last .1 .1 .1 .1 .1 .1 .1 .1 .1 .0) (c .before .settle .last .1 .1 .1 .1 .1 .1 .1 .1 .1 .1 .0)
+standing c = all-hold (problem (c .before .before .before .before .before .before .before .before .before .before .before .before .before .before .before .before .before .before .before .before .before .before .before .before .before .before .before .before)) (c .before .settle .result) (c .before .settle .last .1 .1 .1 .1 .1 .1 .0) (c .before .settle .last .1 .1 .1 .1 .1 .1 .1 .1 .1 .0) (c .before .settle .last .1 .1 .1 .1 .1 .1 .1 .1 .1 .1 .0) (c .before .settle .last .1 .1 .1 .1 .1 .1 .1 .1 .1 .1 .1 .0) (c .before .settle .last .1 .1 .1 .1 .1 .1 .1 .1 .1 .1 .1 .1 .0) (c .if2 .left) (settled (c .before))
 
-balanced : (c : tie.After-balance-all) → Balanced (withKind (problem (c .before .before .before .before .before .before .before .before .before .before .before .before .before .before .before .before .before .before .before .before .before .before .before .before .before .before .before .before .before .before .before .before .before .before .before .before .before .before .before .before .before .before .before)) []) (c .before .before .before .before .before .before .before .before .before .before .before .before .before .settle .last .1 .1 .1 .1 .1 .1 .0) (c .balance-all .last .1 .1 .1 .1 .1 .1 .1 .1 .1 .1 .1 .1 .1 .1 .0) (c .balance-all .last .1 .1 .1 .1 .1 .1 .1 .1 .1 .1 .1 .1 .1 .1 .1 .0) (c .balance-all .last .1 .1 .1 .1 .1 .1 .1 .1 .1 .1 .1 .1 .1 .1 .1 .1 .0) (c .balance-all .last .1 .1 .1 .1 .1 .1 .1 .1 .1 .1 .1 .1 .1 .1 .1 .1 .1 .0)
+balanced : (c : tie.After-balance-all) → Balanced (withKind (problem (c .before .before .before .before .before .before .before .before .before .before .before .before .before .before .before .before .before .before .before .before .before .before .before .before .before .before .before .before .before .before .before .before .before .before .before .before .before .before .before .before)) []) (c .before .before .before .before .before .before .before .before .before .before .before .before .before .settle .last .1 .1 .1 .1 .1 .1 .0) (c .balance-all .last .1 .1 .1 .1 .1 .1 .1 .1 .1 .1 .1 .1 .1 .1 .0) (c .balance-all .last .1 .1 .1 .1 .1 .1 .1 .1 .1 .1 .1 .1 .1 .1 .1 .0) (c .balance-all .last .1 .1 .1 .1 .1 .1 .1 .1 .1 .1 .1 .1 .1 .1 .1 .1 .0) (c .balance-all .last .1 .1 .1 .1 .1 .1 .1 .1 .1 .1 .1 .1 .1 .1 .1 .1 .1 .0)
 balanced c = c .balance-all .ensures .0
 
 -- ---- what they ask
@@ -50,27 +50,24 @@ balanced c = c .balance-all .ensures .0
 propose-requires : tie.Need-propose-requires
 propose-requires c κs = limits (c .before .before .before .before .before .before .before .before .before .before .before .before)
 
-all-held-requires : tie.Need-all-held-requires
-all-held-requires c κs = turning.comparable (limits (c .before .before .before .before .before .before .before .before .before .before .before .before .before .before .before)) (c .before .before .propose .last .1 .1 .1 .1 .1 .1 .1 .1 .1 .0) (c .before .before .propose .last .1 .1 .1 .1 .1 .1 .1 .1 .1 .1 .1 .1 .1 .1 .1 .1 .1 .0) (c .before .before .propose .last .1 .1 .1 .1 .1 .1 .1 .1 .1 .1 .1 .1 .1 .1 .1 .1 .1 .1 .0) (proposed-stands (c .before .before) .found)
-
 settle-requires : tie.Need-settle-requires
-settle-requires c κs = (limits (c .before .before .before .before .before .before .before .before .before .before .before .before .before .before .before .before .before .before .before .before .before .before .before .before .before .before .before .before .before), proposed (c .before .before .before .before .before .before .before .before .before .before .before .before .before .before .before .before) .start)
+settle-requires c κs = (limits (c .before .before .before .before .before .before .before .before .before .before .before .before .before .before .before .before .before .before .before .before .before .before .before .before .before .before), proposed-stands (c .before .before .before .before .before .before .before .before .before .before .before .before .before))
 
 balance-all-requires : tie.Need-balance-all-requires
-balance-all-requires c κs = (limits-kind [] (limits (c .before .before .before .before .before .before .before .before .before .before .before .before .before .before .before .before .before .before .before .before .before .before .before .before .before .before .before .before .before .before .before .before .before .before .before .before .before .before .before .before .before .before)), standing (c .before .before .before .before .before .before .before .before .before .before .before) .0 .forest)
+balance-all-requires c κs = (limits-kind [] (limits (c .before .before .before .before .before .before .before .before .before .before .before .before .before .before .before .before .before .before .before .before .before .before .before .before .before .before .before .before .before .before .before .before .before .before .before .before .before .before .before)), standing (c .before .before .before .before .before .before .before .before .before .before .before) .0 .forest)
 
 -- ---- what is returned
 
 returns : tie.Need-returns
-returns c = finish (problem (c .before .before .before .before .before .before .before .before .before .before .before .before .before .before .before .before .before)) (c .before .before .before .before .propose .last .1 .1 .1 .1 .1 .1 .1 .1 .1 .0) (c .before .before .before .before .propose .last .1 .1 .1 .1 .1 .1 .1 .1 .1 .1 .1 .1 .1 .1 .1 .1 .1 .0) (c .before .before .before .before .propose .last .1 .1 .1 .1 .1 .1 .1 .1 .1 .1 .1 .1 .1 .1 .1 .1 .1 .1 .0) (c .before .before .before .before .propose .last .1 .1 .1 .1 .1 .1 .1 .1 .1 .1 .1 .1 .1 .1 .1 .1 .1 .0) (c .before .before .before .before .propose .last .1 .1 .1 .1 .1 .1 .1 .1 .1 .1 .1 .1 .1 .1 .1 .1 .1 .1 .0) (c .before .before .before .before .propose .last .1 .1 .1 .1 .1 .1 .1 .1 .1 .1 .1 .1 .1 .1 .1 .1 .1 .1 .1 .0) (c .before .before .before .before .propose .last .1 .1 .1 .1 .1 .1 .1 .1 .1 .1 .1 .1 .1 .1 .1 .1 .1 .1 .1 .1 .0) (limits (c .before .before .before .before .before .before .before .before .before .before .before .before .before .before .before .before .before)) (proposed-stands (c .before .before .before .before)) (c .before .all-held .ensures (c .if1 .taken)) (proposed (c .before .before .before .before) .balanced)
+returns c = finish (problem (c .before .before .before .before .before .before .before .before .before .before .before .before .before .before)) (c .before .propose .last .1 .1 .1 .1 .1 .1 .1 .1 .1 .0) (c .before .propose .last .1 .1 .1 .1 .1 .1 .1 .1 .1 .1 .1 .1 .1 .1 .1 .1 .1 .0) (c .before .propose .last .1 .1 .1 .1 .1 .1 .1 .1 .1 .1 .1 .1 .1 .1 .1 .1 .1 .1 .0) (c .before .propose .last .1 .1 .1 .1 .1 .1 .1 .1 .1 .1 .1 .1 .1 .1 .1 .1 .1 .0) (c .before .propose .last .1 .1 .1 .1 .1 .1 .1 .1 .1 .1 .1 .1 .1 .1 .1 .1 .1 .1 .0) (c .before .propose .last .1 .1 .1 .1 .1 .1 .1 .1 .1 .1 .1 .1 .1 .1 .1 .1 .1 .1 .1 .0) (c .before .propose .last .1 .1 .1 .1 .1 .1 .1 .1 .1 .1 .1 .1 .1 .1 .1 .1 .1 .1 .1 .1 .0) (limits (c .before .before .before .before .before .before .before .before .before .before .before .before .before .before)) (proposed-stands (c .before)) (c .before .propose .ensures .1 (c .if1 .taken)) (proposed (c .before) .balanced)
 
 returns-2 : tie.Need-returns-2
-returns-2 c = ring-found (problem (c .before .before .before .before .before .before .before .before .before .before .before .before .before .before .before .before .before .before .before .before .before .before .before .before .before .before .before .before .before .before .before)) (c .before .settle .result) (c .before .settle .last .1 .1 .1 .1 .1 .1 .0) (c .before .settle .last .1 .1 .1 .1 .1 .1 .1 .1 .1 .0) (c .before .settle .last .1 .1 .1 .1 .1 .1 .1 .1 .1 .1 .0) (c .before .before .before .before .before .before .before .before .before .before .before .before .before .before .before .before .before .before .propose .last .1 .1 .1 .1 .1 .1 .1 .1 .1 .1 .1 .1 .1 .1 .1 .1 .1 .1 .1 .0) (c .before .before .before .before .before .before .before .before .before .before .before .before .before .before .before .before .before .before .propose .last .1 .1 .1 .1 .1 .1 .1 .1 .1 .1 .1 .1 .1 .1 .1 .1 .1 .1 .1 .1 .0) (c .before .settle .last .1 .1 .1 .1 .1 .1 .1 .1 .1 .1 .1 .0) (c .before .settle .last .1 .1 .1 .1 .1 .1 .1 .1 .1 .1 .1 .1 .0) (c .if2 .taken) (settled (c .before))
+returns-2 c = ring-found (problem (c .before .before .before .before .before .before .before .before .before .before .before .before .before .before .before .before .before .before .before .before .before .before .before .before .before .before .before .before)) (c .before .settle .result) (c .before .settle .last .1 .1 .1 .1 .1 .1 .0) (c .before .settle .last .1 .1 .1 .1 .1 .1 .1 .1 .1 .0) (c .before .settle .last .1 .1 .1 .1 .1 .1 .1 .1 .1 .1 .0) (c .before .before .before .before .before .before .before .before .before .before .before .before .before .before .before .propose .last .1 .1 .1 .1 .1 .1 .1 .1 .1 .1 .1 .1 .1 .1 .1 .1 .1 .1 .1 .0) (c .before .before .before .before .before .before .before .before .before .before .before .before .before .before .before .propose .last .1 .1 .1 .1 .1 .1 .1 .1 .1 .1 .1 .1 .1 .1 .1 .1 .1 .1 .1 .1 .0) (c .before .settle .last .1 .1 .1 .1 .1 .1 .1 .1 .1 .1 .1 .0) (c .before .settle .last .1 .1 .1 .1 .1 .1 .1 .1 .1 .1 .1 .1 .0) (c .if2 .taken) (settled (c .before))
 
 returns-3 : tie.Need-returns-3
-returns-3 c = finish (problem (c .before .before .before .before .before .before .before .before .before .before .before .before .before .before .before .before .before .before .before .before .before .before .before .before .before .before .before .before .before .before .before .before .before .before .before .before .before .before .before .before .before .before .before)) (c .before .before .before .before .before .before .before .before .before .before .before .before .before .settle .last .1 .1 .1 .1 .1 .1 .0) (c .before .before .before .before .before .before .before .before .before .before .before .before .before .settle .last .1 .1 .1 .1 .1 .1 .1 .1 .1 .0) (c .before .before .before .before .before .before .before .before .before .before .before .before .before .settle .last .1 .1 .1 .1 .1 .1 .1 .1 .1 .1 .0) (c .balance-all .last .1 .1 .1 .1 .1 .1 .1 .1 .1 .1 .1 .1 .1 .1 .0) (c .balance-all .last .1 .1 .1 .1 .1 .1 .1 .1 .1 .1 .1 .1 .1 .1 .1 .0) (c .balance-all .last .1 .1 .1 .1 .1 .1 .1 .1 .1 .1 .1 .1 .1 .1 .1 .1 .0) (c .balance-all .last .1 .1 .1 .1 .1 .1 .1 .1 .1 .1 .1 .1 .1 .1 .1 .1 .1 .0) (limits (c .before .before .before .before .before .before .before .before .before .before .before .before .before .before .before .before .before .before .before .before .before .before .before .before .before .before .before .before .before .before .before .before .before .before .before .before .before .before .before .before .before .before .before)) (standing (c .before .before .before .before .before .before .before .before .before .before .before .before) .0) (standing (c .before .before .before .before .before .before .before .before .before .before .before .before) .1) (balanced c)
+returns-3 c = finish (problem (c .before .before .before .before .before .before .before .before .before .before .before .before .before .before .before .before .before .before .before .before .before .before .before .before .before .before .before .before .before .before .before .before .before .before .before .before .before .before .before .before)) (c .before .before .before .before .before .before .before .before .before .before .before .before .before .settle .last .1 .1 .1 .1 .1 .1 .0) (c .before .before .before .before .before .before .before .before .before .before .before .before .before .settle .last .1 .1 .1 .1 .1 .1 .1 .1 .1 .0) (c .before .before .before .before .before .before .before .before .before .before .before .before .before .settle .last .1 .1 .1 .1 .1 .1 .1 .1 .1 .1 .0) (c .balance-all .last .1 .1 .1 .1 .1 .1 .1 .1 .1 .1 .1 .1 .1 .1 .0) (c .balance-all .last .1 .1 .1 .1 .1 .1 .1 .1 .1 .1 .1 .1 .1 .1 .1 .0) (c .balance-all .last .1 .1 .1 .1 .1 .1 .1 .1 .1 .1 .1 .1 .1 .1 .1 .1 .0) (c .balance-all .last .1 .1 .1 .1 .1 .1 .1 .1 .1 .1 .1 .1 .1 .1 .1 .1 .1 .0) (limits (c .before .before .before .before .before .before .before .before .before .before .before .before .before .before .before .before .before .before .before .before .before .before .before .before .before .before .before .before .before .before .before .before .before .before .before .before .before .before .before .before)) (standing (c .before .before .before .before .before .before .before .before .before .before .before .before) .0) (standing (c .before .before .before .before .before .before .before .before .before .before .before .before) .1) (balanced c)
 
 pub solve-spec : {M : Type 1} → statement M
 solve-spec =
     tie.close
-    (tie.spec propose-requires all-held-requires returns settle-requires returns-2 balance-all-requires returns-3)
+    (tie.spec propose-requires returns settle-requires returns-2 balance-all-requires returns-3)

@@ -1,5 +1,5 @@
--- `projection::write::places_out` meets its contract. The loop's invariant: the first k fractions are written in lowest terms and the other entries stay
--- (`FractionsWritten`). The measure is the entries left. Assumes nothing.
+-- `projection::write::places_out` meets its contract. The loop's invariant: the first k fractions are written in lowest terms, the other entries stay
+-- (`FractionsWritten`), and the divisor known is one. The measure is the entries left. Assumes nothing.
 use Prim.Native.Nat.{_≤_, _-_}
 use native.Mathlib.Omega.{arith}
 use mathlib.Core.Path.{_≡_}
@@ -7,6 +7,7 @@ use borrow.Author.Needs.{needs}
 use mir.Syntax.{w64}
 use mir.Val.{toZ, ofZ}
 use Rattle.exact.specs.Fraction.{Reduced}
+use Rattle.exact.specs.Divide.{IsDivisor}
 use Rattle.forest.specs.Tree.{int}
 use Rattle.projection.specs.Core.{fraction}
 use Rattle.projection.specs.Project.{FractionsWritten}
@@ -15,31 +16,38 @@ use Rattle.projection.proofs.write.places_out.Statement.{statement}
 use Rattle.projection.proofs.write.places_out.Tie as tie
 
 abbrev Inv-loop : tie.InvT-loop
-Inv-loop count num den upper₀ lower₀ k₀ upper lower k = (k ≤ count) × FractionsWritten k num den upper₀ lower₀ upper lower
+Inv-loop count num den upper₀ lower₀ known₀ k₀ upper lower known k = (k ≤ count) × FractionsWritten k num den upper₀ lower₀ upper lower × IsDivisor known
 
 abbrev μ-loop : tie.MeasureT-loop
-μ-loop count num den upper₀ lower₀ k₀ upper lower k = count - k
+μ-loop count num den upper₀ lower₀ known₀ k₀ upper lower known k = count - k
+
+no-divisor-requires : tie.Need-no-divisor-requires Inv-loop μ-loop
+no-divisor-requires c κs = search needs
 
 loop-holds : tie.Need-loop-holds Inv-loop μ-loop
-loop-holds c = (omega arith, reduced-start _ _ _ _)
+loop-holds c = (omega arith, reduced-start _ _ _ _, c .no-divisor .ensures)
 
-mul-reduced : tie.Need-mul-reduced Inv-loop μ-loop
-mul-reduced c = omega arith
+mul-n : tie.Need-mul-n Inv-loop μ-loop
+mul-n c = omega arith
 
-element-copy-out-reduced : tie.Need-element-copy-out-reduced Inv-loop μ-loop
-element-copy-out-reduced c = omega arith
+element-copy-out-n : tie.Need-element-copy-out-n Inv-loop μ-loop
+element-copy-out-n c = omega arith
 
-mul-reduced-2 : tie.Need-mul-reduced-2 Inv-loop μ-loop
-mul-reduced-2 c = omega arith
+mul-d : tie.Need-mul-d Inv-loop μ-loop
+mul-d c = omega arith
 
-element-copy-out-reduced-2 : tie.Need-element-copy-out-reduced-2 Inv-loop μ-loop
-element-copy-out-reduced-2 c = omega arith
+element-copy-out-d : tie.Need-element-copy-out-d Inv-loop μ-loop
+element-copy-out-d c = omega arith
 
-reduced-requires : tie.Need-reduced-requires Inv-loop μ-loop
-reduced-requires c κs =
-    let d = int (c .before .before .before .before .args .den .now) (c .before .before .before .loop .k) in
-    let e : toZ w64 (ofZ w64 d) ≡ d = search needs in
-    rw e (above-zero (c .before .before .before .before .pre .3 (c .before .before .before .loop .k) (c .before .before .loop-test .taken)))
+divisor-requires : tie.Need-divisor-requires Inv-loop μ-loop
+divisor-requires c κs =
+    let s = c .before .before .before .before .before in
+    let w = c .before .before .before .loop in
+    let e : toZ w64 (ofZ w64 (int (s .args .den .now) (w .k))) ≡ int (s .args .den .now) (w .k) = search needs in
+    (rw e (above-zero (s .pre .3 (w .k) (c .before .before .loop-test .taken))), w .inv .2)
+
+lowest-by-requires : tie.Need-lowest-by-requires Inv-loop μ-loop
+lowest-by-requires c κs = c .divisor .ensures
 
 mul-top : tie.Need-mul-top Inv-loop μ-loop
 mul-top c = omega arith
@@ -61,15 +69,15 @@ loop-less c = omega arith
 
 loop-again : tie.Need-loop-again Inv-loop μ-loop
 loop-again c =
-    let s = c .before .before .before .before .before .before .before in
-    let w = c .before .before .before .before .before .before .loop in
-    let q = c .before .before .reduced .result in
+    let s = c .before .before .before .before .before .before .before .before .before in
+    let w = c .before .before .before .before .before .before .before .loop in
+    let q = c .before .before .lowest-by .result in
     let num : toZ w64 (ofZ w64 (int (s .args .num .now) (w .k))) ≡ int (s .args .num .now) (w .k) = search needs in
     let den : toZ w64 (ofZ w64 (int (s .args .den .now) (w .k))) ≡ int (s .args .den .now) (w .k) = search needs in
     let top : toZ w64 (ofZ w64 (q .num)) ≡ q .num = search needs in
     let bottom : toZ w64 (ofZ w64 (q .den)) ≡ q .den = search needs in
-    let r : Reduced (fraction (s .args .num .now) (s .args .den .now) (w .k)) q = rw (num, den) at (c .before .before .reduced .ensures) in
-    (omega arith, rw (top, bottom) (reduced-turn q (w .inv .1) (omega arith) (omega arith) r))
+    let r : Reduced (fraction (s .args .num .now) (s .args .den .now) (w .k)) q = rw (num, den) at (c .before .before .lowest-by .ensures) in
+    (omega arith, rw (top, bottom) (reduced-turn q (w .inv .1) (omega arith) (omega arith) r), c .before .before .before .divisor .ensures .0)
 
 same-length : tie.Need-same-length Inv-loop μ-loop
 same-length c = c .before .loop .inv .1 .uppers .size
@@ -86,12 +94,14 @@ places-out-spec =
     (tie.spec
     Inv-loop
     μ-loop
+    no-divisor-requires
     loop-holds
-    mul-reduced
-    element-copy-out-reduced
-    mul-reduced-2
-    element-copy-out-reduced-2
-    reduced-requires
+    mul-n
+    element-copy-out-n
+    mul-d
+    element-copy-out-d
+    divisor-requires
+    lowest-by-requires
     mul-top
     slice-set-from-top
     mul-bottom

@@ -8,11 +8,11 @@ use Rattle.proposal.proofs.guess.pull.Reads as pull-reads
 use Rattle.proposal.proofs.guess.widest.Reads as widest-reads
 
 abbrev Inv-loop : tie.InvT-loop
-Inv-loop labels gaps left right reach block₀ place₀ total₀ wish₀ found₀ turns₀ block place total wish found turns =
+Inv-loop labels gaps left right reach block₀ place₀ total₀ wish₀ way₀ found₀ turns₀ block place total wish way found turns =
     (turns ≤ labels) × (labels ≤ 48) × (gaps ≤ 192) × Within 48 gaps left × Within 48 gaps right
 
 abbrev μ-loop : tie.MeasureT-loop
-μ-loop labels gaps left right reach block₀ place₀ total₀ wish₀ found₀ turns₀ block place total wish found turns =
+μ-loop labels gaps left right reach block₀ place₀ total₀ wish₀ way₀ found₀ turns₀ block place total wish way found turns =
     labels - turns
 
 loop-holds : tie.Need-loop-holds Inv-loop μ-loop
@@ -28,7 +28,10 @@ returns-2 : tie.Need-returns-2 Inv-loop μ-loop
 returns-2 c = tt
 
 pull-requires : tie.Need-pull-requires Inv-loop μ-loop
-pull-requires c κs = let i = c .before .before .before .before .before .before .before .before .before .before .before .loop .inv in let in-gaps : c .before .before .before .before .before .before .before .widest .result .gap .0 < c .before .before .before .before .before .before .before .before .before .before .before .before .args .gaps = omega (arith, c .before .before .before .before .if2 .left) in (i .1, omega (arith, in-gaps, i .2), i .3 _ in-gaps, i .4 _ in-gaps)
+pull-requires c κs =
+    let i = c .before .before .before .before .before .before .before .before .before .before .before .before .loop .inv in
+    let in-gaps : c .before .before .before .before .before .before .before .before .widest .result .gap .0 < c .before .before .before .before .before .before .before .before .before .before .before .before .before .args .gaps = omega (arith, c .before .before .before .before .before .if2 .left) in
+    (i .1, omega (arith, in-gaps, i .2), i .3 _ in-gaps, i .4 _ in-gaps)
 
 add-turns : tie.Need-add-turns Inv-loop μ-loop
 add-turns c = omega arith
@@ -37,7 +40,7 @@ loop-less : tie.Need-loop-less Inv-loop μ-loop
 loop-less c = omega arith
 
 loop-again : tie.Need-loop-again Inv-loop μ-loop
-loop-again c = let i = c .before .before .before .before .before .before .before .before .before .before .before .before .loop .inv in (omega arith, i .1, i .2, i .3, i .4)
+loop-again c = let i = c .before .before .before .before .before .before .before .before .before .before .before .before .before .loop .inv in (omega arith, i .1, i .2, i .3, i .4)
 
 returns-3 : tie.Need-returns-3 Inv-loop μ-loop
 returns-3 c = tt

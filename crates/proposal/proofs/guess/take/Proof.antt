@@ -5,12 +5,10 @@ use Rattle.proposal.proofs.guess.take.Statement.{statement}
 use Rattle.proposal.proofs.guess.take.Tie as tie
 
 abbrev Inv-loop : tie.InvT-loop
-Inv-loop gaps from wish₀ some₀ e₀ wish some e =
-    (e ≤ gaps) × (gaps ≤ 192)
+Inv-loop gaps from wish₀ e₀ wish e = (e ≤ gaps) × (gaps ≤ 192)
 
 abbrev μ-loop : tie.MeasureT-loop
-μ-loop gaps from wish₀ some₀ e₀ wish some e =
-    gaps - e
+μ-loop gaps from wish₀ e₀ wish e = gaps - e
 
 loop-holds : tie.Need-loop-holds Inv-loop μ-loop
 loop-holds c = (omega arith, c .pre)
@@ -20,9 +18,6 @@ element-copy-out-wish c = omega arith
 
 element-write-wish : tie.Need-element-write-wish Inv-loop μ-loop
 element-write-wish c = omega arith
-
-element-copy-out-if1 : tie.Need-element-copy-out-if1 Inv-loop μ-loop
-element-copy-out-if1 c = omega arith
 
 add-e : tie.Need-add-e Inv-loop μ-loop
 add-e c = omega arith
@@ -45,7 +40,6 @@ take-spec =
     loop-holds
     element-copy-out-wish
     element-write-wish
-    element-copy-out-if1
     add-e
     loop-less
     loop-again

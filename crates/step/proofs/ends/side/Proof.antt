@@ -43,22 +43,22 @@ signed s = rw (sign-read s) (s .pre .3)
 
 -- ---- what the calls leave
 
-tree-found : (c : tie.After-search) → Tree (graphOf (problem (c .before .before .before .before .before .before)) (now (c .before .before .before .before .before .before .args .mark))) (c .before .before .before .before .before .before .args .root .0) (c .search .result) (c .search .last .1 .1 .1 .1 .1 .1 .1 .0) (c .search .last .1 .1 .1 .1 .1 .1 .1 .1 .0) (c .search .last .1 .1 .1 .1 .1 .1 .1 .1 .1 .0) (c .search .last .1 .1 .1 .1 .1 .1 .1 .1 .1 .1 .0) (c .search .last .1 .1 .1 .1 .1 .1 .1 .1 .1 .1 .1 .0)
-tree-found c = c .search .ensures
+tree-found : (c : tie.After-search-along) → Tree (graphOf (problem (c .before .before .before .before .before .before)) (now (c .before .before .before .before .before .before .args .mark))) (c .before .before .before .before .before .before .args .root .0) (c .search-along .result) (c .search-along .last .1 .1 .1 .1 .1 .1 .1 .1 .1 .1 .1 .0) (c .search-along .last .1 .1 .1 .1 .1 .1 .1 .1 .1 .1 .1 .1 .0) (c .search-along .last .1 .1 .1 .1 .1 .1 .1 .1 .1 .1 .1 .1 .1 .0) (c .search-along .last .1 .1 .1 .1 .1 .1 .1 .1 .1 .1 .1 .1 .1 .1 .0) (c .search-along .last .1 .1 .1 .1 .1 .1 .1 .1 .1 .1 .1 .1 .1 .1 .1 .0)
+tree-found c = c .search-along .ensures
 
 sums-found : (c : tie.After-sums) → SumsInRange (c .sums .result)
 sums-found c = block-sums (limits (c .before .before .before .before .before .before .before .before .before)) (tree-found (c .before .before .before)) (c .sums .result) (c .sums .ensures .0) (c .sums .ensures .1)
 
-surplus-found : (c : tie.After-surplus) → Given (c .before .before .before .before .before .before .before .search .result) (c .before .before .before .before .before .before .before .search .last .1 .1 .1 .1 .1 .1 .1 .1 .0) (λ x. c .before .before .before .before .before .before .before .before .before .before .before .before .before .args .sign *ℤ surplusAt (c .before .before .before .before .sums .result) (c .before .before .before .before .before .before .before .search .last .1 .1 .1 .1 .1 .1 .1 .1 .1 .1 .1 .0) (now (c .before .before .before .before .before .before .before .before .before .before .before .before .before .args .wanted)) (now (c .before .before .before .before .before .before .before .before .before .before .before .before .before .args .weight)) x) (now (c .before .before .before .before .before .before .before .before .before .before .before .before .before .args .held)) (c .surplus .last .1 .1 .1 .1 .1 .1 .1 .0)
+surplus-found : (c : tie.After-surplus) → Given (c .before .before .before .before .before .before .before .search-along .result) (c .before .before .before .before .before .before .before .search-along .last .1 .1 .1 .1 .1 .1 .1 .1 .1 .1 .1 .1 .0) (λ x. c .before .before .before .before .before .before .before .before .before .before .before .before .before .args .sign *ℤ surplusAt (c .before .before .before .before .sums .result) (c .before .before .before .before .before .before .before .search-along .last .1 .1 .1 .1 .1 .1 .1 .1 .1 .1 .1 .1 .1 .1 .1 .0) (now (c .before .before .before .before .before .before .before .before .before .before .before .before .before .args .wanted)) (now (c .before .before .before .before .before .before .before .before .before .before .before .before .before .args .weight)) x) (now (c .before .before .before .before .before .before .before .before .before .before .before .before .before .args .held)) (c .surplus .last .1 .1 .1 .1 .1 .1 .1 .0)
 surplus-found c = rw (sign-read (c .before .before .before .before .before .before .before .before .before .before .before .before .before)) at (c .surplus .ensures)
 
-shares-found : (c : tie.After-shared) → Shared (c .before .before .before .before .before .before .before .before .before .before .before .before .search .result) (c .before .before .before .before .before .before .before .before .before .before .before .before .search .last .1 .1 .1 .1 .1 .1 .1 .0) (c .before .before .before .before .before .before .before .before .before .before .before .before .search .last .1 .1 .1 .1 .1 .1 .1 .1 .0) (now (c .before .before .before .before .before .before .before .before .before .before .before .before .before .before .before .before .before .before .args .weight)) (c .before .before .before .before .before .before .before .before .before .before .before .before .before .before .before .before .before .before .args .other .0) (c .before .before .before .before .before .before .before .before .before .sums .result .weight) (c .shared .result) (now (c .before .before .before .before .before .before .before .before .before .before .before .before .before .before .before .before .before .before .args .share)) (c .shared .last .1 .1 .1 .1 .1 .1 .0)
+shares-found : (c : tie.After-shared) → Shared (c .before .before .before .before .before .before .before .before .before .before .before .before .search-along .result) (c .before .before .before .before .before .before .before .before .before .before .before .before .search-along .last .1 .1 .1 .1 .1 .1 .1 .1 .1 .1 .1 .0) (c .before .before .before .before .before .before .before .before .before .before .before .before .search-along .last .1 .1 .1 .1 .1 .1 .1 .1 .1 .1 .1 .1 .0) (now (c .before .before .before .before .before .before .before .before .before .before .before .before .before .before .before .before .before .before .args .weight)) (c .before .before .before .before .before .before .before .before .before .before .before .before .before .before .before .before .before .before .args .other .0) (c .before .before .before .before .before .before .before .before .before .sums .result .weight) (c .shared .result) (now (c .before .before .before .before .before .before .before .before .before .before .before .before .before .before .before .before .before .before .args .share)) (c .shared .last .1 .1 .1 .1 .1 .1 .0)
 shares-found c = rw (sums-read (sums-found (c .before .before .before .before .before .before .before .before .before)) .0) at (c .shared .ensures)
 
 -- ---- what they ask
 
-search-requires : tie.Need-search-requires
-search-requires c κs = (graph-in-limits (now (c .before .before .before .before .before .args .mark)) (limits (c .before .before .before .before .before)), c .before .before .before .before .before .pre .1)
+search-along-requires : tie.Need-search-along-requires
+search-along-requires c κs = (graph-in-limits (now (c .before .before .before .before .before .args .mark)) (limits (c .before .before .before .before .before)), c .before .before .before .before .before .pre .1, c .before .before .before .before .before .pre .4, c .before .before .before .before .before .pre .5)
 
 sums-requires : tie.Need-sums-requires
 sums-requires c κs =
@@ -134,7 +134,7 @@ pub side-spec : {M : Type 1} → statement M
 side-spec =
     tie.close
     (tie.spec
-    search-requires
+    search-along-requires
     sums-requires
     surplus-requires
     shared-requires
