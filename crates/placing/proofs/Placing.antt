@@ -2,7 +2,6 @@
 -- stands there. Then the loop that places all labels.
 use mathlib.Core.Path.{_≡_, refl, sym, _∙_, ap}
 use mathlib.Core.Logic.{_⊎_, inl, inr, ⊎-elim, _≢_}
-use mathlib.Core.Bool.{true, false, true≢false}
 use mathlib.Core.List.{List, [], _∷_}
 use Prim.Native.Nat.{ℕ, zero, suc, _+_, _*_, _≤_, _<_}
 use native.Mathlib.Omega.{arith}
@@ -12,7 +11,7 @@ use lib.Signed.{_≤ℤ_}
 use lib.Dec.{eqb}
 use lib.ListN.{set}
 use lib.Seq.{getD-set-other}
-use borrow.Author.Tests.{eqb-true, eqb-false, ltb-true, lt-ltb}
+use borrow.Author.Count.{below-more}
 use Rattle.exact.specs.Sum.{sum}
 use Rattle.exact.proofs.Ring.{ring, quotes, eq-given, eq-goal}
 use Rattle.exact.proofs.Whole.{parts-+, parts-natAbs, le-parts, parts-le, no-nn}
@@ -20,19 +19,14 @@ use Rattle.exact.proofs.Sum.{ind, sum-none, sum-last, sum-cong, sum-+, sum-*, s
 use Rattle.least_move.proofs.Flow.{flow}
 use Rattle.least_move.proofs.Forest.{by-mark, block-still}
 use Rattle.least_move.proofs.Sides.{StateAt}
-use Rattle.forest.specs.Tree.{nat, int, InLimits, Tree}
+use Rattle.forest.specs.Tree.{nat, int, Tree}
 use Rattle.elimination.specs.declared.Sums.{Sums}
-use Rattle.elimination.specs.Block.{Listed, InRange, SumsInRange, weightSum, wantedSum, Given, numerator}
-use Rattle.elimination.proofs.Ranges.{plus-most, times-most, sums-in-range}
-use Rattle.elimination.proofs.TreeFlow.{isSeen, tree-listed, seen-placed, seen-found, mean-at}
+use Rattle.elimination.specs.Block.{weightSum, wantedSum, Given, numerator}
+use Rattle.elimination.proofs.Ranges.{plus-most, times-most}
+use Rattle.elimination.proofs.TreeFlow.{isSeen, mean-at}
 use Rattle.step.specs.Problem.{Problem, Limits, graphOf, marksOf, numbersOf}
+use Rattle.step.proofs.SearchedBlock.{limits-graph, block-listed, of-block, unseen, gaps-inside, spread-most, block-range, block-sums}
 use Rattle.placing.specs.Places.{LabelPlaced, BlockPlaced, PlacesFound}
-
--- ---- the problem's limits
-
-pub limits-graph : {p : Problem} (mark : List ℕ) → Limits p → InLimits (graphOf p mark)
-limits-graph mark l =
-    record { labels-most = l .labels-most; gaps-most = l .gaps-most; left-in = l .left-in; right-in = l .right-in; distance-most = l .distance-most }
 
 -- ---- kinds do not matter
 
@@ -94,72 +88,34 @@ halved W x N z e =
     let ρ : List ℤ = W ∷ x ∷ N ∷ z ∷ [] in
     eq-goal ρ (search quotes depth 12) (search quotes depth 12) (omega (arith, eq-given ρ (search quotes depth 12) (search quotes depth 12) e))
 
+-- what is left of a balance where nothing pushes
+pub unpushed : (f b : ℤ) → f +ℤ pos 0 *ℤ (b -ℤ b) ≡ f
+unpushed f b = ring (f ∷ b ∷ []) (search quotes depth 12) (search quotes depth 12) refl
+
 -- ---- a block
 
 module _ {p : Problem} {mark : List ℕ} {root count : ℕ} {at queue via up : List ℕ} {off : List ℤ} (lim : Limits p) (t : Tree (graphOf p mark) root count at queue via up off) where
-  spread-most : (j k : ℕ) → j < count → k < count → natAbs (int off (nat queue j) -ℤ int off (nat queue k)) ≤ 940000
-  spread-most j k lj lk =
-      omega (
-        arith,
-        t .spread (nat queue j) (nat queue k) (t .placed j lj .0) (t .placed k lk .0) (omega (arith, t .placed j lj .1)) (omega (arith, t .placed k lk .1)),
-        t .within,
-        lim .labels-most,
-      )
-
-  off-most : (k : ℕ) → k < count → natAbs (int off (nat queue k)) ≤ 940000
-  off-most k l =
-      let origin : int off (nat queue 0) ≡ pos 0 = ap (int off) (t .first) ∙ t .origin in
-      let o : ℤ = int off (nat queue k) in
-      let whole : o -ℤ pos 0 ≡ o = ring (o ∷ []) (search quotes depth 12) (search quotes depth 12) refl in
-      omega (arith, spread-most k 0 l (t .some), ap natAbs (ap (λ z. o -ℤ z) origin ∙ whole))
-
-  pub block-listed : Listed count queue
-  block-listed = tree-listed (limits-graph mark lim) t
-
-  pub block-range : InRange count queue off (p .wanted) (p .weight)
-  block-range = record {
-    weight-least = λ k l. lim .weight-least (nat queue k) (t .placed k l .0);
-    weight-most = λ k l. lim .weight-most (nat queue k) (t .placed k l .0);
-    wanted-most = λ k l. lim .wanted-most (nat queue k) (t .placed k l .0);
-    off-most = off-most;
-  }
-
-  gaps-inside : (e : ℕ) → e < p .gaps → marksOf mark e ≡ true → isSeen at (nat (p .left) e) ≡ isSeen at (nat (p .right) e)
-  gaps-inside e l m =
-      let both = t .closed e l (eqb-true (nat mark e) 1 m) in
-      by-mark (isSeen at (nat (p .left) e))
-      (λ s. s ∙ sym (lt-ltb 0 (nat at (nat (p .right) e)) (both .0 (ltb-true 0 (nat at (nat (p .left) e)) s))))
-      (λ s. s ∙ sym (by-mark (isSeen at (nat (p .right) e))
-      (λ r. absurd (true≢false (sym (lt-ltb 0 (nat at (nat (p .left) e)) (both .1 (ltb-true 0 (nat at (nat (p .right) e)) r))) ∙ s)))
-      (λ r. r)))
-
   -- the block's balance sums to zero: no marked gap leads out of it, and nothing pushes
   block-balance : (N : ℤ) (X Λ : ℕ → ℤ) → StateAt (numbersOf p) (marksOf mark) 0 0 N (pos 0) X Λ → sum (p .labels) (λ i. ind (isSeen at i) *ℤ (pos 2 *ℤ (int (p .weight) i *ℤ (X i -ℤ N *ℤ int (p .wanted) i)))) ≡ pos 0
   block-balance N X Λ st =
       sum-cong (p .labels) (λ i. ind (isSeen at i) *ℤ (pos 2 *ℤ (int (p .weight) i *ℤ (X i -ℤ N *ℤ int (p .wanted) i)))) (λ i. ind (isSeen at i) *ℤ flow (p .gaps) (nat (p .left)) (nat (p .right)) Λ i)
       (λ i l. ap (λ z. ind (isSeen at i) *ℤ z) (st .balance i l ∙ unpushed (flow (p .gaps) (nat (p .left)) (nat (p .right)) Λ i) (ind (eqb 0 i))))
-      ∙ block-still (marksOf mark) Λ (isSeen at) (lim .left-in) (lim .right-in) (st .off) gaps-inside
-    where
-      unpushed : (f b : ℤ) → f +ℤ pos 0 *ℤ (b -ℤ b) ≡ f
-      unpushed f b = ring (f ∷ b ∷ []) (search quotes depth 12) (search quotes depth 12) refl
+      ∙ block-still (marksOf mark) Λ (isSeen at) (lim .left-in) (lim .right-in) (st .off) (gaps-inside lim t)
 
   module _ (s : Sums) (hw : s .weight ≡ weightSum count queue (p .weight)) (hp : s .wanted ≡ wantedSum count queue off (p .wanted) (p .weight)) where
-    pub block-sums : SumsInRange s
-    block-sums = sums-in-range block-range s block-listed (t .some) hw hp
-
     num-most : (k : ℕ) → k < count → (B : ℕ) → ((i : ℕ) → i < p .labels → natAbs (int (p .wanted) i) ≤ B) → natAbs (numerator s off (nat queue k)) ≤ (B + 940000) * natAbs (s .weight)
     num-most k l B h =
         let o : ℤ = int off (nat queue k) in
         rw (hp, hw, moved-sum count (λ j. int (p .weight) (nat queue j)) (λ j. int (p .wanted) (nat queue j)) (λ j. int off (nat queue j)) o)
         (weighted-most count (λ j. int (p .weight) (nat queue j)) (λ j. int (p .wanted) (nat queue j) +ℤ (o -ℤ int off (nat queue j))) (B + 940000)
-        (λ j lj. parts-le (omega (arith, le-parts (block-range .weight-least j lj))))
-        (λ j lj. plus-most (int (p .wanted) (nat queue j)) (o -ℤ int off (nat queue j)) (h (nat queue j) (t .placed j lj .0)) (spread-most k j l lj)))
+        (λ j lj. parts-le (omega (arith, le-parts (block-range lim t .weight-least j lj))))
+        (λ j lj. plus-most (int (p .wanted) (nat queue j)) (o -ℤ int off (nat queue j)) (h (nat queue j) (t .placed j lj .0)) (spread-most lim t k j l lj)))
 
     -- each of the block's labels stands at its numerator over W
     pub label-placed : (k : ℕ) → k < count → LabelPlaced p mark (nat queue k) (numerator s off (nat queue k)) (s .weight)
     label-placed k l = record {
-      den-least = block-sums .weight-least;
-      den-most = λ B h. rw hw (omega (arith, mul-le-mul {n₁ = count} {m₁ = B} {n₂ = 48} {m₂ = B} (block-listed .count-most) (omega arith), sum-bound count (λ j. int (p .weight) (nat queue j)) B (λ j lj. h (nat queue j) (t .placed j lj .0))));
+      den-least = block-sums lim t s hw hp .weight-least;
+      den-most = λ B h. rw hw (omega (arith, mul-le-mul {n₁ = count} {m₁ = B} {n₂ = 48} {m₂ = B} (block-listed lim t .count-most) (omega arith), sum-bound count (λ j. int (p .weight) (nat queue j)) B (λ j lj. h (nat queue j) (t .placed j lj .0))));
       num-most = num-most k l;
       placed = λ N X Λ _ st. halved (s .weight) (X (nat queue k)) N (numerator s off (nat queue k))
           (rw (hp, hw) (mean-at (limits-graph mark lim) t X N (st .tight) (int (p .weight)) (int (p .wanted)) (pos 0) (block-balance N X Λ st) k l));
@@ -170,18 +126,12 @@ module _ {p : Problem} {mark : List ℕ} {root count : ℕ} {at queue via up : L
     block-placed {num₀} {den₀} {num} {den} gn gd = record {
       root-placed = rw (t .first) at (at-position 0 (t .some));
       placed-or-kept = λ j l. by-mark (isSeen at j)
-          (λ b. inl (seen j (seen-found (limits-graph mark lim) t j l b)))
-          (λ b. inr (gn .outside j (unseen j b), gd .outside j (unseen j b)));
+          (λ b. inl (of-block lim t (λ x. LabelPlaced p mark x (int num x) (int den x)) at-position j l b))
+          (λ b. inr (gn .outside j (unseen lim t j b), gd .outside j (unseen lim t j b)));
     }
       where
         at-position : (k : ℕ) → k < count → LabelPlaced p mark (nat queue k) (int num (nat queue k)) (int den (nat queue k))
         at-position k l = rw (gn .inside k l, gd .inside k l) (label-placed k l)
-
-        seen : (j : ℕ) → (k : ℕ) × (k < count) × (nat queue k ≡ j) → LabelPlaced p mark j (int num j) (int den j)
-        seen j q = rw (q .2) at (at-position (q .0) (q .1))
-
-        unseen : (j : ℕ) → isSeen at j ≡ false → (k : ℕ) → k < count → nat queue k ≢ j
-        unseen j b k l e = true≢false (sym (seen-placed (limits-graph mark lim) t k l) ∙ ap (isSeen at) e ∙ b)
 
 -- ---- the loop over all labels
 
@@ -192,13 +142,10 @@ zeroed (a ∷ l) zero = refl
 zeroed (a ∷ l) (suc i) = zeroed l i
 
 pub cleared : (l : List ℤ) (i : ℕ) → ((x : ℕ) → x < i → int l x ≡ pos 0) → (x : ℕ) → x < i + 1 → int (set l i (pos 0)) x ≡ pos 0
-cleared l i h x k =
-    by-mark (eqb x i)
-    (λ e. ap (int (set l i (pos 0))) (eqb-true x i e) ∙ zeroed l i)
-    (λ e. getD-set-other l i x (pos 0) (pos 0) (eqb-false x i e) ∙ h x (below (eqb-false x i e)))
-  where
-    below : x ≢ i → x < i
-    below d = omega arith
+cleared l i h =
+    below-more (λ x. int (set l i (pos 0)) x ≡ pos 0) i
+    (λ x k. getD-set-other l i x (pos 0) (pos 0) (λ (e : x ≡ i). omega arith) ∙ h x k)
+    (zeroed l i)
 
 -- the labels before label i are placed, and so is every label whose denominator is not zero
 pub record PlacedBefore (p : Problem) (mark : List ℕ) (i : ℕ) (num den : List ℤ) : Type 0 where
@@ -208,26 +155,17 @@ pub record PlacedBefore (p : Problem) (mark : List ℕ) (i : ℕ) (num den : Lis
 pub before-none : {p : Problem} {mark : List ℕ} {num den : List ℤ} → p .labels ≤ 48 → ((x : ℕ) → x < 48 → int den x ≡ pos 0) → PlacedBefore p mark 0 num den
 before-none l z = record { passed = λ j h _. absurd (omega arith); other = λ j h. inr (z j (omega arith)) }
 
-passed-more : {p : Problem} {mark : List ℕ} {i : ℕ} (num den : List ℤ) → ((j : ℕ) → j < i → j < p .labels → LabelPlaced p mark j (int num j) (int den j)) → LabelPlaced p mark i (int num i) (int den i) → (j : ℕ) → j < i + 1 → j < p .labels → LabelPlaced p mark j (int num j) (int den j)
-passed-more {p} {mark} {i} num den f q j h l =
-    by-mark (eqb j i)
-    (λ e. rw (eqb-true j i e) q)
-    (λ e. f j (below (eqb-false j i e)) l)
-  where
-    below : j ≢ i → j < i
-    below d = omega arith
-
 -- a label with a denominator is passed over
 pub before-skip : {p : Problem} {mark : List ℕ} {i : ℕ} {num den : List ℤ} → i < p .labels → int den i ≢ pos 0 → PlacedBefore p mark i num den → PlacedBefore p mark (i + 1) num den
 before-skip {p} {mark} {i} {num} {den} l d b = record {
-  passed = passed-more num den (b .passed) (⊎-elim (λ q. q) (λ (z : int den i ≡ pos 0). absurd (d z)) (b .other i l));
+  passed = below-more (λ j. j < p .labels → LabelPlaced p mark j (int num j) (int den j)) i (b .passed) (λ _. ⊎-elim (λ q. q) (λ (z : int den i ≡ pos 0). absurd (d z)) (b .other i l));
   other = b .other;
 }
 
 -- the block of a label is placed; the labels placed before stay so, or are placed again
 pub before-block : {p : Problem} {mark : List ℕ} {i : ℕ} {num₀ den₀ num den : List ℤ} → PlacedBefore p mark i num₀ den₀ → BlockPlaced p mark i num₀ den₀ num den → PlacedBefore p mark (i + 1) num den
 before-block {p} {mark} {i} {num₀} {den₀} {num} {den} b q = record {
-  passed = passed-more num den (λ j h l. ⊎-elim (λ r. r) (λ (k : (int num j ≡ int num₀ j) × (int den j ≡ int den₀ j)). rw (k .0, k .1) (b .passed j h l)) (q .placed-or-kept j l)) (q .root-placed);
+  passed = below-more (λ j. j < p .labels → LabelPlaced p mark j (int num j) (int den j)) i (λ j h l. ⊎-elim (λ r. r) (λ (k : (int num j ≡ int num₀ j) × (int den j ≡ int den₀ j)). rw (k .0, k .1) (b .passed j h l)) (q .placed-or-kept j l)) (λ _. q .root-placed);
   other = λ j l. ⊎-elim inl
       (λ (k : (int num j ≡ int num₀ j) × (int den j ≡ int den₀ j)). ⊎-elim
       (λ (r : LabelPlaced p mark j (int num₀ j) (int den₀ j)). inl (rw (k .0, k .1) r))

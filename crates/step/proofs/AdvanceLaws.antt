@@ -1,9 +1,9 @@
 -- What an advance comes to: from what is found of the blocks at the two ends, the state of the outer step that follows.
 use mathlib.Core.Path.{_≡_, refl, sym, _∙_, ap, ap₂}
-use mathlib.Core.Logic.{_⊎_, inl, inr, ⊎-elim}
+use mathlib.Core.Logic.{inl, inr, ⊎-elim}
 use mathlib.Core.Bool.{Bool, true, false, cond, _&&_, true≢false}
 use mathlib.Core.List.{List, [], _∷_}
-use Prim.Native.Nat.{ℕ, zero, suc, pred, _<_}
+use Prim.Native.Nat.{ℕ, pred, _<_}
 use native.Mathlib.Omega.{arith}
 use lib.IntN.{ℤ, pos, negsuc, _+ℤ_, _-ℤ_, _*ℤ_, zero-*ℤ}
 use lib.Signed.{_≤ℤ_, _<ℤ_, leZ}
@@ -23,19 +23,19 @@ use Rattle.least_move.proofs.Blocks.{not-true}
 use Rattle.least_move.proofs.Sides.{BlockSide, drop-same, drop-left, drop-right, reach}
 use Rattle.forest.specs.Tree.{nat, int}
 use Rattle.elimination.specs.Block.{numerator}
-use Rattle.elimination.specs.Eliminate.{Ordered}
-use Rattle.elimination.proofs.Eliminated.{eliminated-inside, eliminated-grows}
-use Rattle.elimination.proofs.TreeFlow.{isSeen, Hangs, away, back, Eliminates, tree-ordered, tree-parent, seen-found, hangs}
+use Rattle.elimination.proofs.TreeFlow.{isSeen, Eliminates, tree-parent, seen-found}
 use Rattle.step.specs.declared.Break.{Break}
 use Rattle.step.specs.declared.Break.the-variants.{Nothing, At}
 use Rattle.step.specs.declared.Side.{Side}
 use Rattle.step.specs.Breaking.{over, nearerOf, candidateOf}
 use Rattle.step.specs.Decide.{meetingOf, beforeTight, againstTight, decided, withinBlock}
-use Rattle.step.specs.Problem.{Problem, Limits, kindOf, graphOf, marksOf, numbersOf}
+use Rattle.step.specs.Problem.{Problem, Limits, kindOf, marksOf, numbersOf}
 use Rattle.step.specs.Side.{SideFound}
 use Rattle.step.specs.Advance.{IsForest, GapDropped, GapReached, Blocked, Gives}
 use Rattle.step.proofs.BreakingPoints.{NoLater, Above0, Each, no-later-trans, nearer-one, nearer-first, nearer-second, nearer-none, nearer-above0, cross, here-above0, breaks-at, Least, least-at, least-above0, least-no-later, least-none}
-use Rattle.step.proofs.SideLaws.{EliminatesAll, Breaks, restLoad, pushLoad, limits-graph, sound, minus-above, block-side-apart, block-side-joined, says-left, says-right, candidate-left, candidate-right}
+use Rattle.step.proofs.SearchedBlock.{limits-graph, of-block, as-root, block-eliminates}
+use Rattle.step.proofs.EndBlock.{sums-range, share-moderate, share-grows, share-nonneg}
+use Rattle.step.proofs.SideLaws.{Breaks, restLoad, pushLoad, sound, kind-least, minus-above, block-side-apart, block-side-joined, says-left, says-right, candidate-left, candidate-right}
 
 -- ---- plain numbers
 
@@ -44,10 +44,6 @@ le-at x y i j h = rw (← i, ← j) h
 
 lt-at : {R R' P P' : ℤ} (M Z : ℤ) → R ≡ R' → P ≡ P' → (R *ℤ Z) <ℤ (M *ℤ P) → (R' *ℤ Z) <ℤ (M *ℤ P')
 lt-at M Z i j h = rw (← i, ← j) h
-
-nonneg-either : (b : Bool) {x y : ℤ} → pos 0 ≤ℤ x → pos 0 ≤ℤ y → pos 0 ≤ℤ cond b x y
-nonneg-either true h k = h
-nonneg-either false h k = k
 
 nonneg-term : (b : Bool) (v : ℤ) → pos 0 ≤ℤ v → pos 0 ≤ℤ (ind b *ℤ v)
 nonneg-term true v h = rw (one-*ℤ v) h
@@ -60,43 +56,12 @@ plus-nonneg u v h = parts-le (omega (arith, parts-+ u v, le-parts h))
 at-root : (P W o : ℤ) → o ≡ pos 0 → P ≡ P +ℤ o *ℤ W
 at-root P W o e = rw e (ring (P ∷ W ∷ []) (search quotes depth 12) (search quotes depth 12) refl)
 
-kind-least : (b : ℕ) → kindOf b ≡ at-least → b ≡ 0
-kind-least zero e = refl
-kind-least (suc zero) e = let z : _≡_ {A = ℕ} 0 1 = cc in absurd (omega arith)
-kind-least (suc (suc b)) e = let z : _≡_ {A = ℕ} 0 1 = cc in absurd (omega arith)
-
 -- ---- one block
 
-eliminates : EliminatesAll
-eliminates = eliminated-inside
-
 module _ {p : Problem} {mark : List ℕ} {root other : ℕ} {sign : ℤ} {r : Side} {at queue via up : List ℕ} {off held share : List ℤ} (lim : Limits p) (f : SideFound p mark root other sign r at queue via up off held share) where
-  ordered : Ordered (r .count) queue up
-  ordered = tree-ordered (limits-graph mark lim) (f .tree)
-
-  weight-nonneg : (k : ℕ) → k < r .count → pos 0 ≤ℤ int (p .weight) (nat queue k)
-  weight-nonneg k l = parts-le (omega (arith, le-parts (lim .weight-least (nat queue k) (f .tree .placed k l .0))))
-
-  total-some : pos 1 ≤ℤ r .sums .weight
-  total-some =
-      rw (f .weight)
-      (le-trans (lim .weight-least (nat queue 0) (f .tree .placed 0 (f .tree .some) .0)) (sum-term-le (r .count) (λ k. int (p .weight) (nat queue k)) weight-nonneg 0 (f .tree .some)))
-
-  -- no share is below zero, neither as it is given nor once those behind it have handed on theirs
-  given-nonneg : (k : ℕ) → k < r .count → pos 0 ≤ℤ int (f .share₁) (nat queue k)
-  given-nonneg k l =
-      rw (f .shares .inside k l)
-      (nonneg-either (r .joined) (nonneg-either (eqb (nat queue k) other) (parts-le (omega (arith, le-parts total-some))) (le-of-eq refl)) (weight-nonneg k l))
-
-  share-grows : (k : ℕ) → k < r .count → int (f .share₁) (nat queue k) ≤ℤ int share (nat queue k)
-  share-grows k l = rw (f .share-is) (eliminated-grows (r .count) queue up (f .share₁) ordered (f .share-size) given-nonneg k l)
-
-  share-nonneg : (k : ℕ) → k < r .count → pos 0 ≤ℤ int share (nat queue k)
-  share-nonneg k l = le-trans (given-nonneg k l) (share-grows k l)
-
   -- a label holds at least what one behind it holds
   share-climbs : (k : ℕ) → 0 < k → k < r .count → int share (nat queue k) ≤ℤ int share (nat up (nat queue k))
-  share-climbs k s l = rw (← (q .1)) (le-trans term (rw (holds j lj) (plus-nonneg (int (f .share₁) (nat queue j)) (sum (r .count) behind) (given-nonneg j lj))))
+  share-climbs k s l = rw (← (q .1)) (le-trans term (rw (holds j lj) (plus-nonneg (int (f .share₁) (nat queue j)) (sum (r .count) behind) (share-moderate lim f .nonneg j lj))))
     where
       q : (pred (nat at (nat up (nat queue k))) < k) × (nat queue (pred (nat at (nat up (nat queue k)))) ≡ nat up (nat queue k))
       q = tree-parent (limits-graph mark lim) (f .tree) k s l
@@ -111,13 +76,13 @@ module _ {p : Problem} {mark : List ℕ} {root other : ℕ} {sign : ℤ} {r : Si
       behind i = ind (ltb 0 i && eqb (nat up (nat queue i)) (nat queue j)) *ℤ int share (nat queue i)
 
       holds : Eliminates (r .count) queue up (int (f .share₁)) (int share)
-      holds = rw (f .share-is) (eliminates (r .count) queue up (f .share₁) ordered (f .share-size))
+      holds = block-eliminates lim (f .tree) (f .share₁) share (f .share-size) (f .share-is)
 
       term : int share (nat queue k) ≤ℤ sum (r .count) behind
       term =
           le-trans
           (le-of-eq (sym (ap₂ (λ (x y : Bool). ind (x && y) *ℤ int share (nat queue k)) (lt-ltb 0 k s) (eq-eqb (nat up (nat queue k)) (nat queue j) (sym (q .1))) ∙ one-*ℤ (int share (nat queue k)))))
-          (sum-term-le (r .count) behind (λ i li. nonneg-term (ltb 0 i && eqb (nat up (nat queue i)) (nat queue j)) (int share (nat queue i)) (share-nonneg i li)) k l)
+          (sum-term-le (r .count) behind (λ i li. nonneg-term (ltb 0 i && eqb (nat up (nat queue i)) (nat queue j)) (int share (nat queue i)) (share-nonneg lim f i li)) k l)
 
   abbrev breaks : ℕ → Break
   breaks = candidateOf sign queue via (p .left) (p .right) (p .kind) held share
@@ -151,7 +116,7 @@ module _ {p : Problem} {mark : List ℕ} {a b : ℕ} {one : Side} {at queue via 
         pushed = λ num den indep pushed F wo.
             drop-same (numbersOf p) (marksOf mark) a b h num den la lb (sound lim) indep pushed
             (isSeen at) (one .sums .weight) (numerator (one .sums) off) rest push
-            (block-side-joined eliminates lim f (inl refl) lb j) both (e .0) (says .gap-in) (says .marked) (says .left-seen) (says .kind) (says .above) (least indep) F wo;
+            (block-side-joined lim f (inl refl) lb j) both (e .0) (says .gap-in) (says .marked) (says .left-seen) (says .kind) (says .above) (least indep) F wo;
       }
     where
       rest : ℕ → ℤ
@@ -164,11 +129,11 @@ module _ {p : Problem} {mark : List ℕ} {a b : ℕ} {one : Side} {at queue via 
       first = first-least lim f is
 
       says : Breaks (numbersOf p) (marksOf mark) (isSeen at) rest push e R P
-      says = says-left eliminates lim f refl (first .found .position) (first .found .some) (first .found .within) e R P (first .found .there)
+      says = says-left lim f refl (first .found .position) (first .found .some) (first .found .within) e R P (first .found .there)
 
       least : IsForest p mark → (c : ℕ) → c < p .gaps → marksOf mark c ≡ true → isSeen at (nat (p .left) c) ≡ true → kindOf (nat (p .kind) c) ≡ at-least → pos 0 <ℤ push c → (rest (e .0) *ℤ push c) ≤ℤ (rest c *ℤ push (e .0))
       least indep c l m s kd above =
-          let q = candidate-left eliminates lim f indep (share-nonneg lim f) refl c l m s kd above in
+          let q = candidate-left lim f indep refl c l m s kd above in
           le-at (rest c) (push c) (says .num) (says .den) (first .no-later (q .0) (q .1) (q .2) (gapNumber c) (rest c) (push c) (q .3))
 
   -- where there is none nothing does: the way from b up to a is where the shares are above zero
@@ -189,7 +154,7 @@ module _ {p : Problem} {mark : List ℕ} {a b : ℕ} {one : Side} {at queue via 
           let q : (k : ℕ) × (k < one .count) × (nat queue k ≡ b) = seen-found (limits-graph mark lim) (f .tree) b lb both in
           let own : int (f .share₁) (nat queue (q .0)) ≡ one .sums .weight =
           f .shares .inside (q .0) (q .1) ∙ ap₂ (λ (x y : Bool). cond x (cond y (one .sums .weight) (pos 0)) (int (p .weight) (nat queue (q .0)))) j (eq-eqb (nat queue (q .0)) b (q .2)) in
-          test-of-leZ {a = pos 1} {b = int share b} (rw (← (q .2)) (le-trans (total-some lim f) (rw own at (share-grows lim f (q .0) (q .1)))))
+          test-of-leZ {a = pos 1} {b = int share b} (rw (← (q .2)) (le-trans (sums-range lim f .weight-least) (rw own at (share-grows lim f (q .0) (q .1)))))
 
       points : (k : ℕ) → 0 < k → k < one .count → leZ (pos 1) (int share (nat queue k)) ≡ true → kindOf (nat (p .kind) (nat via (nat queue k))) ≡ at-least → nat (p .right) (nat via (nat queue k)) ≡ nat queue k → ⊥
       points k s l way kd end =
@@ -227,39 +192,17 @@ module _ {p : Problem} {mark : List ℕ} {a b : ℕ} {one two : Side} {at₁ que
   W₂ = two .sums .weight
 
   side₁ : BlockSide (numbersOf p) (marksOf mark) a (isSeen at₁) W₁ (numerator (one .sums) off₁) (int (p .weight)) r₁ q₁
-  side₁ = block-side-apart eliminates lim f₁ (inl refl) j
+  side₁ = block-side-apart lim f₁ (inl refl) j
 
   -- no label of the block of b is one of the block of a: b itself is not, and a marked gap does not leave a block
-  outside-next : (k : ℕ) → 0 < k → k < two .count → isSeen at₁ (nat up₂ (nat queue₂ k)) ≡ false → isSeen at₁ (nat queue₂ k) ≡ false
-  outside-next k s l parent = go (hangs (limits-graph mark lim) (f₂ .tree) k s l)
-    where
-      x : ℕ
-      x = nat queue₂ k
-
-      inside : isSeen at₁ (nat (p .left) (nat via₂ x)) ≡ isSeen at₁ (nat (p .right) (nat via₂ x))
-      inside =
-          let link = f₂ .tree .linked k s l in
-          side₁ .inside (nat via₂ x) (link .gap-in) (eq-eqb (nat mark (nat via₂ x)) 1 (link .marked))
-
-      go : Hangs (graphOf p mark) via₂ up₂ x → isSeen at₁ x ≡ false
-      go (away i e _) = ap (isSeen at₁) (sym e) ∙ sym inside ∙ ap (isSeen at₁) i ∙ parent
-      go (back i e _) = ap (isSeen at₁) (sym e) ∙ inside ∙ ap (isSeen at₁) i ∙ parent
-
-  outside : (n k : ℕ) → k < n → k < two .count → isSeen at₁ (nat queue₂ k) ≡ false
-  outside zero k l c = absurd (omega arith)
-  outside (suc n) zero l c = ap (isSeen at₁) (f₂ .tree .first) ∙ sym (f₁ .joined) ∙ j
-  outside (suc n) (suc k) l c =
-      let y : ℕ = nat up₂ (nat queue₂ (suc k)) in
-      let q : (pred (nat at₂ y) < suc k) × (nat queue₂ (pred (nat at₂ y)) ≡ y) = tree-parent (limits-graph mark lim) (f₂ .tree) (suc k) (omega arith) c in
-      outside-next (suc k) (omega arith) c (ap (isSeen at₁) (sym (q .1)) ∙ outside n (pred (nat at₂ y)) (omega (arith, q .0)) (omega (arith, q .0)))
+  outside : (k : ℕ) → k < two .count → isSeen at₁ (nat queue₂ k) ≡ false
+  outside k l = as-root lim (f₂ .tree) (isSeen at₁) (side₁ .inside) k l ∙ sym (f₁ .joined) ∙ j
 
   apart : (i : ℕ) → i < p .labels → isSeen at₁ i ≡ true → isSeen at₂ i ≡ true → ⊥
-  apart i l s t =
-      let q : (k : ℕ) × (k < two .count) × (nat queue₂ k ≡ i) = seen-found (limits-graph mark lim) (f₂ .tree) i l t in
-      true≢false (sym s ∙ ap (isSeen at₁) (sym (q .2)) ∙ outside (suc (q .0)) (q .0) (omega arith) (q .1))
+  apart i l s t = true≢false (sym s ∙ of-block lim (f₂ .tree) (λ x. isSeen at₁ x ≡ false) outside i l t)
 
   side₂ : BlockSide (numbersOf p) (marksOf mark) b (isSeen at₂) W₂ (numerator (two .sums) off₂) (int (p .weight)) r₂ q₂
-  side₂ = block-side-apart eliminates lim f₂ (inr refl) (f₂ .joined ∙ not-true (isSeen at₂ a) (apart a la (side₁ .root-in)))
+  side₂ = block-side-apart lim f₂ (inr refl) (f₂ .joined ∙ not-true (isSeen at₂ a) (apart a la (side₁ .root-in)))
 
   -- ---- the push at which the gap is tight
 
@@ -283,12 +226,12 @@ module _ {p : Problem} {mark : List ℕ} {a b : ℕ} {one two : Side} {at₁ que
   module _ (indep : IsForest p mark) (e : GapNumber) (R P : ℤ) (above : pos 0 <ℤ P) where
     none-left : NoLater (At e R P) (one .first) → (c : ℕ) → c < p .gaps → marksOf mark c ≡ true → isSeen at₁ (nat (p .left) c) ≡ true → kindOf (nat (p .kind) c) ≡ at-least → pos 0 <ℤ q₁ c → (R *ℤ q₁ c) ≤ℤ (r₁ c *ℤ P)
     none-left n c l m s kd q =
-        let k = candidate-left eliminates lim f₁ indep (share-nonneg lim f₁) refl c l m s kd q in
+        let k = candidate-left lim f₁ indep refl c l m s kd q in
         cross (before-all lim f₁ (At e R P) above n (k .0) (k .1) (k .2)) refl (k .3)
 
     none-right : NoLater (At e R P) (two .first) → (c : ℕ) → c < p .gaps → marksOf mark c ≡ true → isSeen at₂ (nat (p .left) c) ≡ true → kindOf (nat (p .kind) c) ≡ at-least → q₂ c <ℤ pos 0 → (R *ℤ (pos 0 -ℤ q₂ c)) ≤ℤ (r₂ c *ℤ P)
     none-right n c l m s kd q =
-        let k = candidate-right eliminates lim f₂ indep (share-nonneg lim f₂) refl c l m s kd q in
+        let k = candidate-right lim f₂ indep refl c l m s kd q in
         cross (before-all lim f₂ (At e R P) above n (k .0) (k .1) (k .2)) refl (k .3)
 
   -- ---- what gives way
@@ -326,7 +269,7 @@ module _ {p : Problem} {mark : List ℕ} {a b : ℕ} {one two : Side} {at₁ que
         first = first-least lim f₁ is
 
         says : Breaks (numbersOf p) (marksOf mark) (isSeen at₁) r₁ q₁ e R P
-        says = says-left eliminates lim f₁ refl (first .found .position) (first .found .some) (first .found .within) e R P (first .found .there)
+        says = says-left lim f₁ refl (first .found .position) (first .found .some) (first .found .within) e R P (first .found .there)
 
     dropped-right : two .first ≡ At e R P → GapDropped p mark a b h (e .0)
     dropped-right is =
@@ -345,7 +288,7 @@ module _ {p : Problem} {mark : List ℕ} {a b : ℕ} {one two : Side} {at₁ que
         first = first-least lim f₂ is
 
         says : Breaks (numbersOf p) (marksOf mark) (isSeen at₂) r₂ (λ c. pos 0 -ℤ q₂ c) e R P
-        says = says-right eliminates lim f₂ refl (first .found .position) (first .found .some) (first .found .within) e R P (first .found .there)
+        says = says-right lim f₂ refl (first .found .position) (first .found .some) (first .found .within) e R P (first .found .there)
 
   -- the nearer of the two first breaking points, against the push at which the gap is tight
   abbrev near : Break

@@ -1,5 +1,6 @@
 pub mod BreakingPoints
-pub mod SideLaws
+pub mod SearchedBlock
 pub mod EndBlock
+pub mod SideLaws
 pub mod DecideLaws
 pub mod AdvanceLaws

@@ -2,56 +2,41 @@
 -- their flows, and which of them the block's breaking points name.
 use mathlib.Core.Path.{_≡_, refl, sym, _∙_, ap, ap₂, subst}
 use mathlib.Core.Logic.{_⊎_, _↔_, inl, inr, ⊎-elim}
-use mathlib.Core.Bool.{Bool, true, false, cond, _&&_, true≢false}
+use mathlib.Core.Bool.{Bool, true, false, cond}
 use mathlib.Core.List.{List, [], _∷_}
 use Prim.Native.Nat.{ℕ, zero, suc, _<_}
 use native.Mathlib.Omega.{arith}
 use lib.IntN.{ℤ, pos, negsuc, _+ℤ_, _-ℤ_, _*ℤ_, *ℤ-zero, zero-*ℤ}
-use lib.Signed.{_≤ℤ_, _<ℤ_, leZ}
+use lib.Signed.{_≤ℤ_, _<ℤ_}
 use lib.Dec.{eqb}
-use lib.ListN.{length}
-use borrow.Author.Tests.{eqb-true, eqb-false, eq-eqb, ne-eqb, ltb-true, lt-ltb, le-leb, leb-true}
+use borrow.Author.Tests.{eq-eqb}
 use Rattle.exact.specs.Sum.{sum}
 use Rattle.exact.proofs.Ring.{ring, quotes, lt-given, lt-goal}
-use Rattle.exact.proofs.Whole.{one-*ℤ, pp, le-parts, parts-le, lt-parts, parts-lt, le-trans, not-le-of-lt}
-use Rattle.exact.proofs.Sum.{ind, sum-cong, sum--, sum-*, sum-term-le}
+use Rattle.exact.proofs.Whole.{one-*ℤ, pp, le-parts, parts-le, lt-parts, parts-lt, not-le-of-lt}
+use Rattle.exact.proofs.Sum.{ind, sum-cong, sum-*}
 use Rattle.least_move.specs.Sheet.{at-least, gapNumber}
 use Rattle.least_move.specs.declared.GapNumber.{GapNumber}
 use Rattle.least_move.proofs.Flow.{flow, at-label}
-use Rattle.least_move.proofs.Forest.{Independent, by-mark}
+use Rattle.least_move.proofs.Forest.{Independent}
 use Rattle.least_move.proofs.Sides.{Numbers, Sound, BlockSide}
-use Rattle.forest.specs.Tree.{nat, int, InLimits}
+use Rattle.forest.specs.Tree.{nat, int}
 use Rattle.elimination.specs.Block.{numerator, surplusAt, onlyAt}
-use Rattle.elimination.specs.Eliminate.{Ordered, eliminated}
-use Rattle.elimination.proofs.TreeFlow.{isSeen, toward, Hangs, away, back, along, Eliminates, tree-ordered, seen-found, root-in, root-seen, hangs, via-seen, along-at, along-only, along-eliminated, eliminated-root, parent-gaps-all, mean-at, tree-sum}
-use Rattle.step.specs.declared.Break.{Break}
-use Rattle.step.specs.declared.Break.the-variants.{Nothing, At}
+use Rattle.elimination.proofs.TreeFlow.{isSeen, toward, Hangs, away, back, along, eqb-sym, root-in, root-seen, hangs, via-seen, along-at, along-only, parent-gaps-all, mean-at, tree-sum}
+use Rattle.step.specs.declared.Break.the-variants.{At}
 use Rattle.step.specs.declared.Side.{Side}
 use Rattle.step.specs.Breaking.{candidateOf, losingEnd}
 use Rattle.step.specs.Problem.{Problem, Limits, kindOf, graphOf, marksOf, numbersOf}
 use Rattle.step.specs.Side.{SideFound, shareOf}
+use Rattle.step.proofs.BreakingPoints.{breaks-at, MadeOf, made-of}
+use Rattle.step.proofs.SearchedBlock.{limits-graph, of-block, gaps-inside, block-eliminates, load-flow, surplus-flow}
+use Rattle.step.proofs.EndBlock.{sums-range, share-nonneg}
 
 -- ---- the problem's limits
-
-pub limits-graph : {p : Problem} (mark : List ℕ) → Limits p → InLimits (graphOf p mark)
-limits-graph mark l =
-    record { labels-most = l .labels-most; gaps-most = l .gaps-most; left-in = l .left-in; right-in = l .right-in; distance-most = l .distance-most }
 
 pub sound : {p : Problem} → Limits p → Sound (numbersOf p)
 sound l = record { left-in = l .left-in; right-in = l .right-in; heavy = λ i h. parts-lt (omega (arith, le-parts (l .weight-least i h))) }
 
 -- ---- plain numbers and sums
-
--- a test's term, by what holds where the test does
-ind-cong : (b : Bool) (x y : ℤ) → (b ≡ true → x ≡ y) → ind b *ℤ x ≡ ind b *ℤ y
-ind-cong true x y e = ap (λ z. pos 1 *ℤ z) (e refl)
-ind-cong false x y e = zero-*ℤ x ∙ sym (zero-*ℤ y)
-
-eqb-sym : (a b : ℕ) → eqb a b ≡ eqb b a
-eqb-sym a b =
-    by-mark (eqb a b)
-    (λ e. e ∙ sym (eq-eqb b a (sym (eqb-true a b e))))
-    (λ e. e ∙ sym (ne-eqb b a (λ q. eqb-false a b e (sym q))))
 
 -- a load times a number
 flow-* : (m : ℕ) (u v : ℕ → ℕ) (c : ℤ) (Λ : ℕ → ℤ) (i : ℕ) → flow m u v (λ e. c *ℤ Λ e) i ≡ c *ℤ flow m u v Λ i
@@ -66,25 +51,8 @@ flow-* m u v c Λ i = ap₂ (λ x y. x -ℤ y) (side v) (side u) ∙ ring (c ∷
         (λ e _. ring (c ∷ ind (eqb (w e) i) ∷ Λ e ∷ []) (search quotes depth 12) (search quotes depth 12) refl)
         ∙ sum-* m c (λ e. ind (eqb (w e) i) *ℤ Λ e)
 
--- at the weighted mean a block lacks nothing of its balance
-balanced : (n : ℕ) (w d o : ℕ → ℤ) (W P : ℤ) → W ≡ sum n w → P ≡ sum n (λ k. w k *ℤ (d k -ℤ o k)) → sum n (λ k. pos 2 *ℤ (w k *ℤ (P +ℤ o k *ℤ W -ℤ d k *ℤ W))) ≡ pos 0
-balanced n w d o W P hW hP =
-    sum-cong n (λ k. pos 2 *ℤ (w k *ℤ (P +ℤ o k *ℤ W -ℤ d k *ℤ W))) (λ k. pos 2 *ℤ P *ℤ w k -ℤ pos 2 *ℤ W *ℤ (w k *ℤ (d k -ℤ o k)))
-    (λ k _. ring (w k ∷ d k ∷ o k ∷ W ∷ P ∷ []) (search quotes depth 12) (search quotes depth 12) refl)
-    ∙ sum-- n (λ k. pos 2 *ℤ P *ℤ w k) (λ k. pos 2 *ℤ W *ℤ (w k *ℤ (d k -ℤ o k)))
-    ∙ ap₂ (λ x y. x -ℤ y) (sum-* n (pos 2 *ℤ P) w ∙ ap (λ x. pos 2 *ℤ P *ℤ x) (sym hW)) (sum-* n (pos 2 *ℤ W) (λ k. w k *ℤ (d k -ℤ o k)) ∙ ap (λ x. pos 2 *ℤ W *ℤ x) (sym hP))
-    ∙ ring (W ∷ P ∷ []) (search quotes depth 12) (search quotes depth 12) refl
-
--- a sign undoes itself
 abbrev pub IsSign : ℤ → Type 0
 IsSign s = (s ≡ pos 1) ⊎ (s ≡ negsuc 0)
-
-unsigned : (s b c x : ℤ) → IsSign s → s *ℤ (b *ℤ (s *ℤ x) -ℤ c *ℤ pos 0) ≡ b *ℤ x
-unsigned s b c x h =
-    ⊎-elim
-    (λ (e : s ≡ pos 1). ap (λ z. z *ℤ (b *ℤ (z *ℤ x) -ℤ c *ℤ pos 0)) e ∙ ring (b ∷ c ∷ x ∷ []) (search quotes depth 12) (search quotes depth 12) refl)
-    (λ (e : s ≡ negsuc 0). ap (λ z. z *ℤ (b *ℤ (z *ℤ x) -ℤ c *ℤ pos 0)) e ∙ ring (b ∷ c ∷ x ∷ []) (search quotes depth 12) (search quotes depth 12) refl)
-    h
 
 only-ind : (b : Bool) (c : ℤ) → cond b c (pos 0) ≡ ind b *ℤ c
 only-ind true c = sym (one-*ℤ c)
@@ -132,38 +100,11 @@ same-sign s t x hs ht n above =
     minus-plus : (x : ℤ) → negsuc 0 *ℤ (pos 1 *ℤ x) ≡ pos 0 -ℤ x
     minus-plus x = ring (x ∷ []) (search quotes depth 12) (search quotes depth 12) refl
 
--- ---- tests
-
-one-le : (s : ℤ) → pos 0 <ℤ s → leZ (pos 1) s ≡ true
-one-le (pos n) h = le-leb 1 n (omega (arith, lt-parts h))
-one-le (negsuc n) h = absurd (omega (arith, lt-parts h))
-
-le-one : (s : ℤ) → leZ (pos 1) s ≡ true → pos 0 <ℤ s
-le-one (pos n) e = parts-lt (omega (arith, leb-true 1 n e))
-le-one (negsuc n) e = absurd (true≢false (sym e))
-
-kind-zero : (b : ℕ) → kindOf b ≡ at-least → eqb b 0 ≡ true
-kind-zero zero e = refl
-kind-zero (suc zero) e = let z : _≡_ {A = ℕ} 0 1 = cc in absurd (omega arith)
-kind-zero (suc (suc b)) e = let z : _≡_ {A = ℕ} 0 1 = cc in absurd (omega arith)
-
-passed : (a b c : Bool) (x y : Break) → a ≡ true → b ≡ true → c ≡ true → cond (a && b && c) x y ≡ x
-passed a b c x y p q r = rw (p, q, r)
-
--- what a candidate's tests say where it is one
-record Passed (a b c : Bool) (e : GapNumber) (R P : ℤ) (e' : GapNumber) (R' P' : ℤ) : Type 0 where
-  kind : a ≡ true
-  some : b ≡ true
-  end : c ≡ true
-  gap : e' ≡ e
-  num : R' ≡ R
-  den : P' ≡ P
-
-passed-all : (a b c : Bool) (e : GapNumber) (R P : ℤ) (e' : GapNumber) (R' P' : ℤ) → cond (a && b && c) (At e R P) Nothing ≡ At e' R' P' → Passed a b c e R P e' R' P'
-passed-all true true true e R P e' R' P' q = record { kind = refl; some = refl; end = refl; gap = cc; num = cc; den = cc }
-passed-all true true false e R P e' R' P' q = let z : _≡_ {A = ℕ} 0 1 = cc in absurd (omega arith)
-passed-all true false c e R P e' R' P' q = let z : _≡_ {A = ℕ} 0 1 = cc in absurd (omega arith)
-passed-all false b c e R P e' R' P' q = let z : _≡_ {A = ℕ} 0 1 = cc in absurd (omega arith)
+-- 0 alone stands for at least
+pub kind-least : (b : ℕ) → kindOf b ≡ at-least → b ≡ 0
+kind-least zero e = refl
+kind-least (suc zero) e = cc
+kind-least (suc (suc b)) e = cc
 
 -- ---- the loads of a block's marked gaps
 
@@ -199,79 +140,29 @@ restLoad p mark sign count queue via up held e = sign *ℤ along (graphOf p mark
 abbrev pub pushLoad : Problem → List ℕ → ℕ → (queue via up : List ℕ) → List ℤ → ℕ → ℤ
 pushLoad p mark count queue via up share e = along (graphOf p mark) count queue via up (int share) e
 
--- elimination over a queue does what it says
-abbrev pub EliminatesAll : Type 0
-EliminatesAll =
-    (count : ℕ) (queue up : List ℕ) (a : List ℤ) → Ordered count queue up → length a ≡ 48 → Eliminates count queue up (int a) (int (eliminated count queue up a))
-
-module _ {p : Problem} {mark : List ℕ} {root other : ℕ} {sign : ℤ} {r : Side} {at queue via up : List ℕ} {off held share : List ℤ} (eliminates : EliminatesAll) (lim : Limits p) (f : SideFound p mark root other sign r at queue via up off held share) where
-  -- ---- what the eliminations leave
-
-  held-eliminates : Eliminates (r .count) queue up (int (f .held₁)) (int held)
-  held-eliminates =
-      rw (f .held-is) (eliminates (r .count) queue up (f .held₁) (tree-ordered (limits-graph mark lim) (f .tree)) (f .held-size))
-
-  share-eliminates : Eliminates (r .count) queue up (int (f .share₁)) (int share)
-  share-eliminates =
-      rw (f .share-is) (eliminates (r .count) queue up (f .share₁) (tree-ordered (limits-graph mark lim) (f .tree)) (f .share-size))
-
-  -- a fact of the queue's labels is one of the block's
-  of-block : (g h : ℕ → ℤ) → ((k : ℕ) → k < r .count → g (nat queue k) ≡ h (nat queue k)) → (i : ℕ) → i < p .labels → isSeen at i ≡ true → g i ≡ h i
-  of-block g h e i l s =
-      let q : (k : ℕ) × (k < r .count) × (nat queue k ≡ i) = seen-found (limits-graph mark lim) (f .tree) i l s in
-      ap g (sym (q .2)) ∙ e (q .0) (q .1) ∙ ap h (q .2)
-
-  -- the load that accounts for shares h, given to the block's labels
-  load-flow : (a T : List ℤ) (h : ℕ → ℤ) (c : ℤ) → Eliminates (r .count) queue up (int a) (int T) → ((k : ℕ) → k < r .count → int a (nat queue k) ≡ h (nat queue k)) → sum (r .count) (λ k. h (nat queue k)) ≡ c → (i : ℕ) → i < p .labels → flow (p .gaps) (nat (p .left)) (nat (p .right)) (along (graphOf p mark) (r .count) queue via up (int T)) i ≡ ind (isSeen at i) *ℤ h i -ℤ ind (eqb root i) *ℤ c
-  load-flow a T h c el given total i l =
-      along-eliminated (limits-graph mark lim) (f .tree) (int a) (int T) el i l
-      ∙ ap₂ (λ x y. x -ℤ y)
-      (ind-cong (isSeen at i) (int a i) (h i) (of-block (int a) h given i l))
-      (ap₂ (λ b x. ind b *ℤ x) (eqb-sym i root)
-      (eliminated-root (limits-graph mark lim) (f .tree) (int a) (int T) el
-      ∙ sum-cong (r .count) (λ k. int a (nat queue k)) (λ k. h (nat queue k)) given
-      ∙ total))
-
+module _ {p : Problem} {mark : List ℕ} {root other : ℕ} {sign : ℤ} {r : Side} {at queue via up : List ℕ} {off held share : List ℤ} (lim : Limits p) (f : SideFound p mark root other sign r at queue via up off held share) where
   -- ---- the fields
 
   weight-above : pos 0 <ℤ r .sums .weight
-  weight-above =
-      let some : pos 1 ≤ℤ sum (r .count) (λ k. int (p .weight) (nat queue k)) =
-      le-trans (heavy 0 (f .tree .some)) (sum-term-le (r .count) (λ k. int (p .weight) (nat queue k)) (λ k l. parts-le (omega (arith, le-parts (heavy k l)))) 0 (f .tree .some)) in
-      rw (f .weight) (parts-lt (omega (arith, le-parts some)))
-    where
-      heavy : (k : ℕ) → k < r .count → pos 1 ≤ℤ int (p .weight) (nat queue k)
-      heavy k l = lim .weight-least (nat queue k) (f .tree .placed k l .0)
-
-  gaps-inside : (e : ℕ) → e < p .gaps → marksOf mark e ≡ true → isSeen at (nat (p .left) e) ≡ isSeen at (nat (p .right) e)
-  gaps-inside e l m =
-      let both = f .tree .closed e l (eqb-true (nat mark e) 1 m) in
-      by-mark (isSeen at (nat (p .left) e))
-      (λ s. s ∙ sym (lt-ltb 0 (nat at (nat (p .right) e)) (both .0 (ltb-true 0 (nat at (nat (p .left) e)) s))))
-      (λ s. s ∙ sym (by-mark (isSeen at (nat (p .right) e))
-      (λ t. absurd (true≢false (sym (lt-ltb 0 (nat at (nat (p .left) e)) (both .1 (ltb-true 0 (nat at (nat (p .right) e)) t))) ∙ s)))
-      (λ t. t)))
+  weight-above = parts-lt (omega (arith, le-parts (sums-range lim f .weight-least)))
 
   rest-flow : IsSign sign → (i : ℕ) → i < p .labels → flow (p .gaps) (nat (p .left)) (nat (p .right)) (restLoad p mark sign (r .count) queue via up held) i ≡ ind (isSeen at i) *ℤ surplusAt (r .sums) off (p .wanted) (p .weight) i
   rest-flow sgn i l =
       flow-* (p .gaps) (nat (p .left)) (nat (p .right)) sign (along (graphOf p mark) (r .count) queue via up (int held)) i
-      ∙ ap (λ x. sign *ℤ x)
-      (load-flow (f .held₁) held (λ x. sign *ℤ lack x) (pos 0) held-eliminates (f .surplus .inside)
-      (sum-* (r .count) sign (λ k. lack (nat queue k))
-      ∙ ap (λ x. sign *ℤ x)
-      (balanced (r .count) (λ k. int (p .weight) (nat queue k)) (λ k. int (p .wanted) (nat queue k)) (λ k. int off (nat queue k)) (r .sums .weight) (r .sums .wanted) (f .weight) (f .wanted))
-      ∙ *ℤ-zero sign) i l)
-      ∙ unsigned sign (ind (isSeen at i)) (ind (eqb root i)) (lack i) sgn
+      ∙ ap (λ x. sign *ℤ x) (surplus-flow lim (f .tree) sign (r .sums) (f .weight) (f .wanted) (f .surplus) (f .held-size) (f .held-is) i l)
+      ∙ ring (sign ∷ ind (isSeen at i) ∷ lack ∷ []) (search quotes depth 12) (search quotes depth 12) refl
+      ∙ ap (λ x. ind (isSeen at i) *ℤ x) (twice-signed sign sign lack sgn refl)
     where
-      lack : ℕ → ℤ
-      lack = surplusAt (r .sums) off (p .wanted) (p .weight)
+      lack : ℤ
+      lack = surplusAt (r .sums) off (p .wanted) (p .weight) i
 
   push-flow : (h : ℕ → ℤ) → ((x : ℕ) → shareOf p r other x ≡ h x) → sum (r .count) (λ k. h (nat queue k)) ≡ r .sums .weight → (i : ℕ) → i < p .labels → flow (p .gaps) (nat (p .left)) (nat (p .right)) (pushLoad p mark (r .count) queue via up share) i ≡ ind (isSeen at i) *ℤ h i -ℤ ind (eqb root i) *ℤ r .sums .weight
-  push-flow h is total = load-flow (f .share₁) share h (r .sums .weight) share-eliminates (λ k l. f .shares .inside k l ∙ is (nat queue k)) total
+  push-flow h is total =
+      load-flow lim (f .tree) (int (f .share₁)) (int share) h (r .sums .weight) (block-eliminates lim (f .tree) (f .share₁) share (f .share-size) (f .share-is)) (λ k l. f .shares .inside k l ∙ is (nat queue k)) total
 
   mean-found : (N : ℤ) (X : ℕ → ℤ) (c : ℤ) → ((e : ℕ) → e < p .gaps → marksOf mark e ≡ true → X (nat (p .right) e) ≡ X (nat (p .left) e) +ℤ N *ℤ int (p .distance) e) → sum (p .labels) (λ i. ind (isSeen at i) *ℤ (pos 2 *ℤ (int (p .weight) i *ℤ (X i -ℤ N *ℤ int (p .wanted) i)))) ≡ c → (i : ℕ) → i < p .labels → isSeen at i ≡ true → pos 2 *ℤ (r .sums .weight *ℤ X i) ≡ pos 2 *ℤ (N *ℤ numerator (r .sums) off i) +ℤ c
   mean-found N X c tight balance =
-      of-block (λ i. pos 2 *ℤ (r .sums .weight *ℤ X i)) (λ i. pos 2 *ℤ (N *ℤ numerator (r .sums) off i) +ℤ c)
+      of-block lim (f .tree) (λ i. pos 2 *ℤ (r .sums .weight *ℤ X i) ≡ pos 2 *ℤ (N *ℤ numerator (r .sums) off i) +ℤ c)
       (λ k l. ap (λ w. pos 2 *ℤ (w *ℤ X (nat queue k))) (f .weight)
       ∙ mean-at (limits-graph mark lim) (f .tree) X N tight (int (p .weight)) (int (p .wanted)) c balance k l
       ∙ sym (ap₂ (λ v w. pos 2 *ℤ (N *ℤ (v +ℤ int off (nat queue k) *ℤ w)) +ℤ c) (f .wanted) (f .weight)))
@@ -281,7 +172,7 @@ module _ {p : Problem} {mark : List ℕ} {root other : ℕ} {sign : ℤ} {r : Si
       record {
         root-in = root-seen (limits-graph mark lim) (f .tree);
         above = weight-above;
-        inside = gaps-inside;
+        inside = gaps-inside lim (f .tree);
         r-only = λ e l m. ap (λ x. sign *ℤ x) (along-only (limits-graph mark lim) (f .tree) (int held) e l m) ∙ *ℤ-zero sign;
         q-only = along-only (limits-graph mark lim) (f .tree) (int share);
         r-flow = rest-flow sgn;
@@ -347,9 +238,8 @@ module _ {p : Problem} {mark : List ℕ} {root other : ℕ} {sign : ℤ} {r : Si
   share-there sgn k h l t = sym (ap (λ x. sign *ℤ x) (push-at k h l) ∙ twice-signed sign (toward (graphOf p mark) via up (nat queue k)) (int share (nat queue k)) sgn t)
 
   -- what the candidate at a position says of its label's gap
-  pub candidate-says : IsSign sign → (k : ℕ) → 0 < k → k < r .count → (e : GapNumber) (R P : ℤ) → candidateOf sign queue via (p .left) (p .right) (p .kind) held share k ≡ At e R P → (e ≡ gapNumber (nat via (nat queue k))) × Breaks (numbersOf p) (marksOf mark) (isSeen at) (restLoad p mark sign (r .count) queue via up held) (λ c. sign *ℤ pushLoad p mark (r .count) queue via up share c) e R P
-  unfolding candidateOf
-  candidate-says sgn k h l e R P is = (t .gap, rw (t .gap, t .num, t .den) here)
+  pub candidate-says : IsSign sign → (k : ℕ) → 0 < k → k < r .count → (e : GapNumber) (R P : ℤ) → candidateOf sign queue via (p .left) (p .right) (p .kind) held share k ≡ At e R P → Breaks (numbersOf p) (marksOf mark) (isSeen at) (restLoad p mark sign (r .count) queue via up held) (λ c. sign *ℤ pushLoad p mark (r .count) queue via up share c) e R P
+  candidate-says sgn k h l e R P is = rw (t .gap-is, t .num-is, t .den-is) here
     where
       x : ℕ
       x = nat queue k
@@ -357,12 +247,11 @@ module _ {p : Problem} {mark : List ℕ} {root other : ℕ} {sign : ℤ} {r : Si
       c : ℕ
       c = nat via x
 
-      t : Passed (eqb (nat (p .kind) c) 0) (leZ (pos 1) (int share x)) (eqb (losingEnd sign (p .left) (p .right) c) x) (gapNumber c) (int held x) (int share x) e R P
-      t =
-          passed-all (eqb (nat (p .kind) c) 0) (leZ (pos 1) (int share x)) (eqb (losingEnd sign (p .left) (p .right) c) x) (gapNumber c) (int held x) (int share x) e R P is
+      t : MadeOf sign queue via (p .left) (p .right) (p .kind) held share k e R P
+      t = made-of sign queue via (p .left) (p .right) (p .kind) held share k is
 
       way : toward (graphOf p mark) via up x ≡ sign
-      way = losing-toward sgn k h l .0 (eqb-true (losingEnd sign (p .left) (p .right) c) x (t .end))
+      way = losing-toward sgn k h l .0 (t .breaks .loses)
 
       here : Breaks (numbersOf p) (marksOf mark) (isSeen at) (restLoad p mark sign (r .count) queue via up held) (λ c. sign *ℤ pushLoad p mark (r .count) queue via up share c) (gapNumber c) (int held x) (int share x)
       here =
@@ -371,21 +260,18 @@ module _ {p : Problem} {mark : List ℕ} {root other : ℕ} {sign : ℤ} {r : Si
             marked = eq-eqb (nat mark c) 1 (f .tree .linked k h l .marked);
             left-seen = via-seen (limits-graph mark lim) (f .tree) k h l .0;
             right-seen = via-seen (limits-graph mark lim) (f .tree) k h l .1;
-            kind = ap kindOf (eqb-true (nat (p .kind) c) 0 (t .kind));
+            kind = ap kindOf (t .breaks .at-least);
             num = held-there sgn k h l way;
             den = share-there sgn k h l way;
-            above = rw (share-there sgn k h l way) at (le-one (int share x) (t .some));
+            above = rw (t .den-is, share-there sgn k h l way) at (t .above);
           }
 
   -- a position whose gap loses with the push is a candidate
   candidate-here : IsSign sign → (k : ℕ) → 0 < k → k < r .count → pos 0 ≤ℤ int share (nat queue k) → kindOf (nat (p .kind) (nat via (nat queue k))) ≡ at-least → pos 0 <ℤ (sign *ℤ pushLoad p mark (r .count) queue via up share (nat via (nat queue k))) → candidateOf sign queue via (p .left) (p .right) (p .kind) held share k ≡ At (gapNumber (nat via (nat queue k))) (restLoad p mark sign (r .count) queue via up held (nat via (nat queue k))) (sign *ℤ pushLoad p mark (r .count) queue via up share (nat via (nat queue k)))
-  unfolding candidateOf
   candidate-here sgn k h l n kd a =
-      passed (eqb (nat (p .kind) c) 0) (leZ (pos 1) (int share x)) (eqb (losingEnd sign (p .left) (p .right) c) x) (At (gapNumber c) (int held x) (int share x)) Nothing
-      (kind-zero (nat (p .kind) c) kd)
-      (one-le (int share x) (rw (share-there sgn k h l way) a))
-      (eq-eqb (losingEnd sign (p .left) (p .right) c) x (losing-toward sgn k h l .1 way))
-      ∙ ap₂ (At (gapNumber c)) (held-there sgn k h l way) (share-there sgn k h l way)
+      breaks-at sign queue via (p .left) (p .right) (p .kind) held share k
+      (record { at-least = kind-least (nat (p .kind) c) kd; some = parts-le (omega (arith, lt-parts above)); loses = losing-toward sgn k h l .1 way })
+      ∙ ap₂ (At (gapNumber c)) (held-there sgn k h l way) is
     where
       x : ℕ
       x = nat queue k
@@ -396,7 +282,13 @@ module _ {p : Problem} {mark : List ℕ} {root other : ℕ} {sign : ℤ} {r : Si
       way : toward (graphOf p mark) via up x ≡ sign
       way = same-sign sign (toward (graphOf p mark) via up x) (int share x) sgn (toward-sign k h l) n (rw (push-at k h l) at a)
 
-  module _ (indep : Independent (p .labels) (p .gaps) (nat (p .left)) (nat (p .right)) (marksOf mark)) (share-nonneg : (k : ℕ) → k < r .count → pos 0 ≤ℤ int share (nat queue k)) where
+      is : int share x ≡ sign *ℤ pushLoad p mark (r .count) queue via up share c
+      is = share-there sgn k h l way
+
+      above : pos 0 <ℤ int share x
+      above = rw is a
+
+  module _ (indep : Independent (p .labels) (p .gaps) (nat (p .left)) (nat (p .right)) (marksOf mark)) where
     -- every marked gap of the block that loses with the push is a candidate at some position
     pub candidate-found : IsSign sign → (e : ℕ) → e < p .gaps → marksOf mark e ≡ true → isSeen at (nat (p .left) e) ≡ true → kindOf (nat (p .kind) e) ≡ at-least → pos 0 <ℤ (sign *ℤ pushLoad p mark (r .count) queue via up share e) → (k : ℕ) × (0 < k) × (k < r .count) × (candidateOf sign queue via (p .left) (p .right) (p .kind) held share k ≡ At (gapNumber e) (restLoad p mark sign (r .count) queue via up held e) (sign *ℤ pushLoad p mark (r .count) queue via up share e))
     candidate-found sgn e l m s kd a =
@@ -406,7 +298,7 @@ module _ {p : Problem} {mark : List ℕ} {root other : ℕ} {sign : ℤ} {r : Si
           q .2,
           subst
               (λ (c : ℕ). kindOf (nat (p .kind) c) ≡ at-least → pos 0 <ℤ (sign *ℤ pushLoad p mark (r .count) queue via up share c) → candidateOf sign queue via (p .left) (p .right) (p .kind) held share (q .0) ≡ At (gapNumber c) (restLoad p mark sign (r .count) queue via up held c) (sign *ℤ pushLoad p mark (r .count) queue via up share c))
-              (q .3) (candidate-here sgn (q .0) (q .1) (q .2) (share-nonneg (q .0) (q .2))) kd a,
+              (q .3) (candidate-here sgn (q .0) (q .1) (q .2) (share-nonneg lim f (q .0) (q .2))) kd a,
         )
 
     -- at the left end of the pushing gap: r / q where q is above zero
@@ -426,8 +318,8 @@ module _ {p : Problem} {mark : List ℕ} {root other : ℕ} {sign : ℤ} {r : Si
   -- and what a candidate says, at either end
   pub says-left : sign ≡ pos 1 → (k : ℕ) → 0 < k → k < r .count → (e : GapNumber) (R P : ℤ) → candidateOf sign queue via (p .left) (p .right) (p .kind) held share k ≡ At e R P → Breaks (numbersOf p) (marksOf mark) (isSeen at) (restLoad p mark sign (r .count) queue via up held) (pushLoad p mark (r .count) queue via up share) e R P
   says-left g k h l e R P is =
-      breaks-as (pushLoad p mark (r .count) queue via up share) (signed-plus sign (pushLoad p mark (r .count) queue via up share (e .0)) g) (candidate-says (inl g) k h l e R P is .1)
+      breaks-as (pushLoad p mark (r .count) queue via up share) (signed-plus sign (pushLoad p mark (r .count) queue via up share (e .0)) g) (candidate-says (inl g) k h l e R P is)
 
   pub says-right : sign ≡ negsuc 0 → (k : ℕ) → 0 < k → k < r .count → (e : GapNumber) (R P : ℤ) → candidateOf sign queue via (p .left) (p .right) (p .kind) held share k ≡ At e R P → Breaks (numbersOf p) (marksOf mark) (isSeen at) (restLoad p mark sign (r .count) queue via up held) (λ c. pos 0 -ℤ pushLoad p mark (r .count) queue via up share c) e R P
   says-right g k h l e R P is =
-      breaks-as (λ c. pos 0 -ℤ pushLoad p mark (r .count) queue via up share c) (signed-minus sign (pushLoad p mark (r .count) queue via up share (e .0)) g) (candidate-says (inr g) k h l e R P is .1)
+      breaks-as (λ c. pos 0 -ℤ pushLoad p mark (r .count) queue via up share c) (signed-minus sign (pushLoad p mark (r .count) queue via up share (e .0)) g) (candidate-says (inr g) k h l e R P is)

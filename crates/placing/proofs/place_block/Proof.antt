@@ -1,5 +1,6 @@
 -- The search gives the block, its sums are in range, and the pass over it writes the places.
-use Rattle.placing.proofs.Placing.{limits-graph, block-listed, block-range, block-sums, block-placed}
+use Rattle.step.proofs.SearchedBlock.{limits-graph, block-listed, block-range, block-sums}
+use Rattle.placing.proofs.Placing.{block-placed}
 use Rattle.placing.proofs.place_block.Statement.{statement}
 use Rattle.placing.proofs.place_block.Tie as tie
 

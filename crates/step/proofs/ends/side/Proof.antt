@@ -14,7 +14,8 @@ use Rattle.elimination.specs.Block.{SumsInRange, Given, surplusAt}
 use Rattle.elimination.proofs.Ranges.{sums-read}
 use Rattle.step.specs.Problem.{Problem, Limits, graphOf}
 use Rattle.step.specs.Shares.{Shared}
-use Rattle.step.proofs.EndBlock.{graph-in-limits, block-ordered, block-listed, block-in-range, block-sums, surplus-light, shares-moderate, moderate-small, block-breakable}
+use Rattle.step.proofs.SearchedBlock.{limits-graph, block-ordered, block-listed, block-range, block-sums, surplus-light}
+use Rattle.step.proofs.EndBlock.{shares-moderate, moderate-small, block-breakable}
 use Rattle.step.proofs.ends.side.Statement.{statement}
 use Rattle.step.proofs.ends.side.Tie as tie
 
@@ -58,19 +59,19 @@ shares-found c = rw (sums-read (sums-found (c .before .before .before .before .b
 -- ---- what they ask
 
 search-along-requires : tie.Need-search-along-requires
-search-along-requires c κs = (graph-in-limits (now (c .before .before .before .before .before .args .mark)) (limits (c .before .before .before .before .before)), c .before .before .before .before .before .pre .1, c .before .before .before .before .before .pre .4, c .before .before .before .before .before .pre .5)
+search-along-requires c κs = (limits-graph (now (c .before .before .before .before .before .args .mark)) (limits (c .before .before .before .before .before)), c .before .before .before .before .before .pre .1, c .before .before .before .before .before .pre .4, c .before .before .before .before .before .pre .5)
 
 sums-requires : tie.Need-sums-requires
 sums-requires c κs =
     let t = tree-found (c .before .before) in
     let lim = limits (c .before .before .before .before .before .before .before .before) in
-    (block-listed lim t, block-in-range lim t)
+    (block-listed lim t, block-range lim t)
 
 surplus-requires : tie.Need-surplus-requires
 surplus-requires c κs =
     let t = tree-found (c .before .before .before .before .before .before) in
     let s = c .before .before .before .before .before .before .before .before .before .before .before .before in
-    (block-listed (limits s) t, block-in-range (limits s) t, sums-found (c .before .before .before), signed s)
+    (block-listed (limits s) t, block-range (limits s) t, sums-found (c .before .before .before), signed s)
 
 shared-requires : tie.Need-shared-requires
 shared-requires c κs =
