@@ -1,2 +1,4 @@
+pub mod Placing
 pub mod Passes
 pub mod Balance
+pub mod Remarking

@@ -1,10 +1,11 @@
 -- Summation by parts over the gaps of a sheet, in plain whole numbers: nearly every law of the least move is this one lemma.
 -- Gap e goes from label u e to label v e and carries Λ e.
 use mathlib.Core.Path.{_≡_, refl, sym, _∙_, ap, ap₂}
+use mathlib.Core.Logic.{_⊎_, inl, inr}
 use mathlib.Core.Bool.{Bool, true, false}
 use mathlib.Core.List.{List, [], _∷_}
 use Prim.Native.Nat.{ℕ, _<_}
-use lib.IntN.{ℤ, pos, negℤ, _+ℤ_, _-ℤ_, _*ℤ_}
+use lib.IntN.{ℤ, pos, negℤ, _+ℤ_, _-ℤ_, _*ℤ_, zero-*ℤ}
 use lib.Dec.{eqb}
 use borrow.Author.Tests.{eqb-true, ne-eqb, eq-eqb}
 use Rattle.exact.specs.Sum.{sum}
@@ -62,3 +63,14 @@ flow-lin m u v a b Λ M i =
         (λ e _. ring (a ∷ b ∷ ind (eqb (w e) i) ∷ Λ e ∷ M e ∷ []) (search quotes depth 12) (search quotes depth 12) refl)
         ∙ sum-+ m (λ e. a *ℤ (ind (eqb (w e) i) *ℤ Λ e)) (λ e. b *ℤ (ind (eqb (w e) i) *ℤ M e))
         ∙ ap₂ (λ x y. x +ℤ y) (sum-* m a (λ e. ind (eqb (w e) i) *ℤ Λ e)) (sum-* m b (λ e. ind (eqb (w e) i) *ℤ M e))
+
+-- a label's flow is told by the gaps that end at it
+pub flow-local : (m : ℕ) (u v : ℕ → ℕ) (Λ M : ℕ → ℤ) (i : ℕ) → ((e : ℕ) → e < m → (u e ≡ i) ⊎ (v e ≡ i) → Λ e ≡ M e) → flow m u v Λ i ≡ flow m u v M i
+flow-local m u v Λ M i same = ap₂ (λ x y. x -ℤ y) (side v (λ e h q. same e h (inr q))) (side u (λ e h q. same e h (inl q)))
+  where
+    term : (b : Bool) (x y : ℤ) → (b ≡ true → x ≡ y) → ind b *ℤ x ≡ ind b *ℤ y
+    term true x y h = ap (λ z. pos 1 *ℤ z) (h refl)
+    term false x y h = zero-*ℤ x ∙ sym (zero-*ℤ y)
+
+    side : (w : ℕ → ℕ) → ((e : ℕ) → e < m → w e ≡ i → Λ e ≡ M e) → sum m (λ e. ind (eqb (w e) i) *ℤ Λ e) ≡ sum m (λ e. ind (eqb (w e) i) *ℤ M e)
+    side w s = sum-cong m (λ e. ind (eqb (w e) i) *ℤ Λ e) (λ e. ind (eqb (w e) i) *ℤ M e) (λ e h. term (eqb (w e) i) (Λ e) (M e) (λ t. s e h (eqb-true (w e) i t)))

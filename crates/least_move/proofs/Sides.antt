@@ -17,7 +17,7 @@ use Rattle.exact.proofs.Sum.{ind, sum-cong, sum-*}
 use Rattle.least_move.specs.Sheet.{Kind, at-least, exactly, ignored}
 use Rattle.least_move.proofs.Flow.{flow, flow-lin}
 use Rattle.least_move.proofs.Forest.{OnlyOn, Independent, by-mark, multipliers-unique}
-use Rattle.least_move.proofs.Progress.{push, State, costZ, viol, dual, gap-above, work, state-drop, state-unpushed, with-push, dual-cost, progress-grows, progress-grows-lt}
+use Rattle.least_move.proofs.Progress.{push, State, costZ, viol, dual, gap-above, work, state-drop, state-unpushed, with-push, dual-cost, progress-grows, progress-grows-lt, places-unique}
 use Rattle.least_move.proofs.Blocks.{pick-in, not-label, not-true, restrict-flow, state-marked}
 use Rattle.least_move.proofs.Advance.{Drift, Rate, state-along, rate-lawful, rate-spent, rate-way}
 
@@ -649,3 +649,32 @@ module _ (z : Numbers) (F : ℕ → Bool) (a b : ℕ) (h : ℤ) (num den : ℕ �
                 ring (W₁ ∷ W₂ ∷ p .N ∷ p .s ∷ h ∷ p .X a ∷ p .X b ∷ []) (search quotes depth 12) (search quotes depth 12) refl
                 ∙ viol-along W₁ W₂ (p .N) (p .s) (pos 1) (pos 0) h (p .X a) (p .X b) (at₁ a) (at₂ b) stands-a stands-b
                 ∙ ring (W₁ ∷ W₂ ∷ p .N ∷ h ∷ at₁ a ∷ at₂ b ∷ []) (search quotes depth 12) (search quotes depth 12) refl
+
+-- ---- two states of the same marks
+
+-- a state at k times its scale
+scaled-tight : (k N L x y g : ℤ) → L ≡ k *ℤ N → x ≡ y +ℤ N *ℤ g → k *ℤ x ≡ k *ℤ y +ℤ L *ℤ g
+scaled-tight k N L x y g s e = ap (λ t. k *ℤ t) e ∙ ring (k ∷ N ∷ y ∷ g ∷ []) (search quotes depth 12) (search quotes depth 12) refl ∙ ap (λ t. k *ℤ y +ℤ t *ℤ g) (sym s)
+
+scaled-balance : (k N L w x d f o : ℤ) → L ≡ k *ℤ N → pos 2 *ℤ (w *ℤ (x -ℤ N *ℤ d)) ≡ f +ℤ pos 0 *ℤ o → pos 2 *ℤ (w *ℤ (k *ℤ x -ℤ L *ℤ d)) ≡ k *ℤ f +ℤ pos 0 *ℤ f +ℤ pos 0 *ℤ o
+scaled-balance k N L w x d f o s e =
+    ap (λ t. pos 2 *ℤ (w *ℤ (k *ℤ x -ℤ t *ℤ d))) s
+    ∙ ring (k ∷ N ∷ w ∷ x ∷ d ∷ []) (search quotes depth 12) (search quotes depth 12) refl ∙ ap (λ t. k *ℤ t) e
+    ∙ ring (k ∷ f ∷ o ∷ []) (search quotes depth 12) (search quotes depth 12) refl
+
+scaled-state : (z : Numbers) (F : ℕ → Bool) (k N L : ℤ) (X Λ : ℕ → ℤ) → L ≡ k *ℤ N → StateAt z F 0 0 N (pos 0) X Λ → StateAt z F 0 0 L (pos 0) (λ i. k *ℤ X i) (λ e. k *ℤ Λ e +ℤ pos 0 *ℤ Λ e)
+scaled-state z F k N L X Λ s st = record {
+  off = λ e h f. ap (λ x. k *ℤ x +ℤ pos 0 *ℤ x) (st .off e h f) ∙ ring (k ∷ []) (search quotes depth 12) (search quotes depth 12) refl;
+  tight = λ e h t. scaled-tight k N L (X (z .v e)) (X (z .u e)) (z .g e) s (st .tight e h t);
+  balance = λ i h.
+      scaled-balance k N L (z .w i) (X i) (z .d i) (flow (z .m) (z .u) (z .v) Λ i) (ind (eqb 0 i) -ℤ ind (eqb 0 i)) s (st .balance i h)
+      ∙ ap (λ t. t +ℤ pos 0 *ℤ (ind (eqb 0 i) -ℤ ind (eqb 0 i))) (sym (flow-lin (z .m) (z .u) (z .v) k (pos 0) Λ Λ i));
+}
+
+-- the marks say where the labels stand, at any two scales
+pub places-agree : (z : Numbers) (F : ℕ → Bool) (N M : ℤ) (X Y Λ Γ : ℕ → ℤ) → Sound z → StateAt z F 0 0 N (pos 0) X Λ → StateAt z F 0 0 M (pos 0) Y Γ → (i : ℕ) → i < z .n → M *ℤ X i ≡ N *ℤ Y i
+places-agree z F N M X Y Λ Γ so one two i h =
+    places-unique (so .left-in) (so .right-in) some some (scaled-state z F M N (M *ℤ N) X Λ refl one) (scaled-state z F N M (M *ℤ N) Y Γ (ring (N ∷ M ∷ []) (search quotes depth 12) (search quotes depth 12) refl) two) (so .heavy) refl i h
+  where
+    some : 0 < z .n
+    some = omega arith

@@ -19,8 +19,10 @@ use Rattle.forest.specs.Tree.{nat, int}
 use Rattle.elimination.proofs.Ranges.{above-most, fits-small}
 use Rattle.step.specs.Problem.{Problem, Limits, marksOf, numbersOf}
 use Rattle.step.specs.Advance.{IsForest, PushedBy}
-use Rattle.placing.specs.Places.{PlacesFound}
-use Rattle.placing.proofs.Placing.{withKind, places-kind}
+use Rattle.balance.specs.Places.{PlacesFound}
+use Rattle.balance.proofs.Placing.{withKind, places-kind}
+use Rattle.balance.specs.Balance.{Balanced, PartBalanced, Remarked}
+use Rattle.balance.proofs.Remarking.{part-remarked}
 use Rattle.violation.specs.Violation.{GapHolds, Lacks, WorstOf, PlaceInRange, Comparable}
 use Rattle.violation.specs.declared.Worst.{Worst}
 use Rattle.violation.specs.declared.Worst.the-variants.{Nothing, Gap}
@@ -115,7 +117,7 @@ pub record Pushing (p : Problem) (mark : List ℕ) (num den : List ℤ) (e : ℕ
 abbrev PushingBy : (p : Problem) (mark : List ℕ) (num den : List ℤ) (e : ℕ) (backwards : Bool) → Push → Type 0
 PushingBy p mark num den e backwards r = Pushing p mark num den e backwards (r .from .0) (r .to .0) (r .reach)
 
-lacks-pushes : {p : Problem} {mark : List ℕ} {num den : List ℤ} → Limits p → Standing p mark num den → (e : ℕ) (backwards : Bool) → e < p .gaps → Lacks (p .left) (p .right) (p .distance) (p .kind) num den e backwards → PushingBy p mark num den e backwards (pushOf (p .left) (p .right) (p .distance) e backwards)
+lacks-pushes : {p : Problem} {mark : List ℕ} {num den load over : List ℤ} → Limits p → Standing p mark num den load over → (e : ℕ) (backwards : Bool) → e < p .gaps → Lacks (p .left) (p .right) (p .distance) (p .kind) num den e backwards → PushingBy p mark num den e backwards (pushOf (p .left) (p .right) (p .distance) e backwards)
 lacks-pushes {p} {mark} {num} {den} lim st e false l k =
     record {
       gap-in = l;
@@ -144,7 +146,7 @@ none-lacks left right distance kind num den gaps is o = subst (WorstOf left righ
 pub one-lacks : (left right : List ℕ) (distance : List ℤ) (kind : List ℕ) (num den : List ℤ) (gaps : ℕ) {w : Worst} {e : GapNumber} {backwards : Bool} → w ≡ Gap e backwards → WorstOf left right distance kind num den gaps w → (e .0 < gaps) × Lacks left right distance kind num den (e .0) backwards
 one-lacks left right distance kind num den gaps is o = subst (WorstOf left right distance kind num den gaps) is o
 
-pub pushing : {p : Problem} {mark : List ℕ} {num den : List ℤ} → Limits p → Standing p mark num den → (e : ℕ) (backwards : Bool) → (e < p .gaps) × Lacks (p .left) (p .right) (p .distance) (p .kind) num den e backwards → {r : Push} → r ≡ pushOf (p .left) (p .right) (p .distance) e backwards → PushingBy p mark num den e backwards r
+pub pushing : {p : Problem} {mark : List ℕ} {num den load over : List ℤ} → Limits p → Standing p mark num den load over → (e : ℕ) (backwards : Bool) → (e < p .gaps) × Lacks (p .left) (p .right) (p .distance) (p .kind) num den e backwards → {r : Push} → r ≡ pushOf (p .left) (p .right) (p .distance) e backwards → PushingBy p mark num den e backwards r
 pushing lim st e backwards k is = rw is (lacks-pushes lim st e backwards (k .0) (k .1))
 
 -- ---- the end of the turn
@@ -155,17 +157,18 @@ settled mark num den found N X Λ above state lawful =
     record { N = N; X = X; Λ = Λ; above = above; state = state; lawful = lawful; places = λ i l. found i l .placed N X Λ above state }
 
 -- the start of the loop
-pub standing : {p : Problem} {mark : List ℕ} (num den : List ℤ) → Startable p mark → PlacesFound (withKind p []) mark num den → Standing p mark num den
-standing {p} {mark} num den s placed =
-    let found : PlacesFound p mark num den = places-kind p [] mark num den placed in
+pub standing : {p : Problem} {mark : List ℕ} (num den load over : List ℤ) → Startable p mark → Balanced (withKind p []) mark num den load over → Standing p mark num den load over
+standing {p} {mark} num den load over s b =
+    let found : PlacesFound p mark num den = places-kind p [] mark num den (b .found) in
     record {
       forest = s .forest;
       bytes = s .bytes;
       settled = settled mark num den found (s .N) (s .X) (s .Λ) (s .above) (s .state) (s .lawful);
       found = found;
+      balanced = b;
     }
 
-module _ {p : Problem} {mark₀ : List ℕ} {num₀ den₀ : List ℤ} (lim : Limits p) (st : Standing p mark₀ num₀ den₀) where
+module _ {p : Problem} {mark₀ : List ℕ} {num₀ den₀ load₀ over₀ : List ℤ} (lim : Limits p) (st : Standing p mark₀ num₀ den₀ load₀ over₀) where
   -- what the raise of the gap comes to
   raised-to : {e : ℕ} {backwards : Bool} {a b : ℕ} {h : ℤ} {r : Bool} {mark at queue via up : List ℕ} {off : List ℤ} (t : Bool) → Pushing p mark₀ num₀ den₀ e backwards a b h → r ≡ t → Raised p mark₀ e a b (toZ w64 (ofZ w64 h)) r mark at queue via up off → IsForest p mark × RaisedTo t p a b h (int num₀) (int den₀) mark at queue via up off
   raised-to {e} {backwards} {a} {b} {h} t q is r =
@@ -173,13 +176,17 @@ module _ {p : Problem} {mark₀ : List ℕ} {num₀ den₀ : List ℤ} (lim : Li
       let o = rw (is, read-back h (q .reach-most)) at r in
       (o .forest (st .forest) by (int num₀) (int den₀) (q .pushed), o .raised (st .forest) by (int num₀) (int den₀) (q .pushed))
 
-  -- the gap is marked
-  pub turn-again : {e : ℕ} {backwards : Bool} {a b : ℕ} {h : ℤ} {r : Bool} {mark at queue via up : List ℕ} {off : List ℤ} (num den : List ℤ) → Pushing p mark₀ num₀ den₀ e backwards a b h → r ≡ true → Raised p mark₀ e a b (toZ w64 (ofZ w64 h)) r mark at queue via up off → PlacesFound (withKind p []) mark num den → Standing p mark num den × (measure (numbersOf p) (int num) (int den) < measure (numbersOf p) (int num₀) (int den₀))
-  turn-again {mark = mark} num den q is r placed =
-      let found : PlacesFound p mark num den = places-kind p [] mark num den placed in
+  -- the gap is marked: its block waits for its places
+  pub turn-waits : {e : ℕ} {backwards : Bool} {a b : ℕ} {h : ℤ} {r : Bool} {mark at queue via up : List ℕ} {off den load over : List ℤ} → Pushing p mark₀ num₀ den₀ e backwards a b h → r ≡ true → Raised p mark₀ e a b (toZ w64 (ofZ w64 h)) r mark at queue via up off → Remarked (p .left) (p .right) mark₀ den₀ load₀ over₀ mark den load over → IsForest p mark × PartBalanced (withKind p []) mark num₀ den load over
+  turn-waits q is r m = (raised-to true q is r .0, part-remarked m (st .balanced .part))
+
+  -- and finds them
+  pub turn-again : {e : ℕ} {backwards : Bool} {a b : ℕ} {h : ℤ} {r : Bool} {mark at queue via up : List ℕ} {off : List ℤ} (num den load over : List ℤ) → Pushing p mark₀ num₀ den₀ e backwards a b h → r ≡ true → Raised p mark₀ e a b (toZ w64 (ofZ w64 h)) r mark at queue via up off → Balanced (withKind p []) mark num den load over → Standing p mark num den load over × (measure (numbersOf p) (int num) (int den) < measure (numbersOf p) (int num₀) (int den₀))
+  turn-again {mark = mark} num den load over q is r b =
+      let found : PlacesFound p mark num den = places-kind p [] mark num den (b .found) in
       let to : Reached (numbersOf p) (marksOf mark) (int num₀) (int den₀) = raised-to true q is r .1 in
       let at : Settled (numbersOf p) (marksOf mark) (int num) (int den) = settled mark num den found (to .N) (to .X) (to .Λ) (to .above) (to .state) (to .lawful) in (
-        record { forest = raised-to true q is r .0; bytes = r .bytes (st .bytes); settled = at; found = found },
+        record { forest = raised-to true q is r .0; bytes = r .bytes (st .bytes); settled = at; found = found; balanced = b },
         measure-falls (numbersOf p) (marksOf mark) (int num₀) (int den₀) (int num) (int den) (small lim) (dens-in lim mark₀ num₀ den₀ (st .found)) (places-in lim mark num den found) to (at .places),
       )
 
@@ -193,6 +200,6 @@ module _ {p : Problem} {mark₀ : List ℕ} {num₀ den₀ : List ℤ} (lim : Li
       (omega (arith, w .count), w .most, ring-written (to .1) (to .0) lim (q .to-in) backwards e (q .gap-in) (q .pushes) w)
 
 -- a ring has a gap, so that its size says that it is one
-pub settle-ring : (p : Problem) (size : ℕ) (mark : List ℕ) (num den : List ℤ) (ring back : List ℕ) → RingStands p size ring back → SettleSays p size mark num den ring back
-settle-ring p zero mark num den ring back r = absurd (omega (arith, r .0))
-settle-ring p (suc k) mark num den ring back r = r
+pub settle-ring : (p : Problem) (size : ℕ) (mark : List ℕ) (num den load over : List ℤ) (ring back : List ℕ) → RingStands p size ring back → SettleSays p size mark num den load over ring back
+settle-ring p zero mark num den load over ring back r = absurd (omega (arith, r .0))
+settle-ring p (suc k) mark num den load over ring back r = r

@@ -1,11 +1,11 @@
-// One turn of the outer loop: the gap that holds least is raised, and the labels are placed anew.
+// One turn of the outer loop: the gap that holds least is raised, and the blocks that changed are balanced.
 use crate::Push;
 use crate::Turn;
 use crate::raise::raise;
+use balance::rebalance;
 use circuit::way;
 use least_move::GapNumber;
 use least_move::Label;
-use placing::place_all;
 use violation::Worst;
 use violation::worst_gap;
 ghost use mathlib.Core.Path.{_≡_};
@@ -73,9 +73,11 @@ pub(crate) fn turn(
     off: &mut [i64; 48],
     held: &mut [i64; 48],
     share: &mut [i64; 48],
+    load: &mut [i64; 192],
+    over: &mut [i64; 192],
 ) -> Turn
-    requires { ⌜ Limits (record { labels = labels; gaps = gaps; left = now left; right = now right; distance = now distance; kind = now kind; wanted = now wanted; weight = now weight }) × Standing (record { labels = labels; gaps = gaps; left = now left; right = now right; distance = now distance; kind = now kind; wanted = now wanted; weight = now weight }) (now mark) (now num) (now den) ⌝ }
-    ensures { λ r. ⌜ TurnSays (record { labels = labels; gaps = gaps; left = now (left .entry); right = now (right .entry); distance = now (distance .entry); kind = now (kind .entry); wanted = now (wanted .entry); weight = now (weight .entry) }) (now (mark .entry)) (now (num .entry)) (now (den .entry)) r (now (mark .exit)) (now (num .exit)) (now (den .exit)) (now (ring .exit)) (now (back .exit)) ⌝ }
+    requires { ⌜ Limits (record { labels = labels; gaps = gaps; left = now left; right = now right; distance = now distance; kind = now kind; wanted = now wanted; weight = now weight }) × Standing (record { labels = labels; gaps = gaps; left = now left; right = now right; distance = now distance; kind = now kind; wanted = now wanted; weight = now weight }) (now mark) (now num) (now den) (now load) (now over) ⌝ }
+    ensures { λ r. ⌜ TurnSays (record { labels = labels; gaps = gaps; left = now (left .entry); right = now (right .entry); distance = now (distance .entry); kind = now (kind .entry); wanted = now (wanted .entry); weight = now (weight .entry) }) (now (mark .entry)) (now (num .entry)) (now (den .entry)) r (now (mark .exit)) (now (num .exit)) (now (den .exit)) (now (load .exit)) (now (over .exit)) (now (ring .exit)) (now (back .exit)) ⌝ }
 {
     let worst = worst_gap(gaps, left, right, distance, kind, num, den);
     let Worst::Gap(e, backwards) = worst else {
@@ -105,9 +107,12 @@ pub(crate) fn turn(
         off,
         held,
         share,
+        den,
+        load,
+        over,
     );
     if reached {
-        place_all(
+        rebalance(
             labels,
             gaps,
             left,
@@ -121,8 +126,11 @@ pub(crate) fn turn(
             via,
             up,
             off,
+            held,
             num,
             den,
+            load,
+            over,
         );
         return Turn::Again;
     }

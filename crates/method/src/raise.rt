@@ -1,4 +1,5 @@
 // One outer step: the push of a gap that does not hold grows until the gap is tight, or a ring shows.
+use balance::change_mark;
 use forest::chain::chain;
 use least_move::GapNumber;
 use least_move::Label;
@@ -9,6 +10,7 @@ ghost use mathlib.Core.Path.{_≡_};
 ghost use lib.ListN.{length};
 ghost use lib.IntN.{natAbs};
 ghost use Rattle.step.specs.Problem.{Limits};
+ghost use Rattle.balance.specs.Balance.{Remarked};
 ghost use Rattle.method.specs.Raise.{Raised};
 
 // An array lent as a slice shows its length: nothing else says how long the list behind a reference to an array is.
@@ -42,12 +44,14 @@ pub(crate) fn raise(
     off: &mut [i64; 48],
     held: &mut [i64; 48],
     share: &mut [i64; 48],
+    den: &mut [i64; 48],
+    load: &mut [i64; 192],
+    over: &mut [i64; 192],
 ) -> bool
     requires { ⌜ Limits (record { labels = labels; gaps = gaps; left = now left; right = now right; distance = now distance; kind = now kind; wanted = now wanted; weight = now weight }) × (c .0 < gaps) × (a .0 < labels) × (b .0 < labels) × (natAbs h ≤ 20000) ⌝ }
-    ensures { λ r. ⌜ Raised (record { labels = labels; gaps = gaps; left = now (left .entry); right = now (right .entry); distance = now (distance .entry); kind = now (kind .entry); wanted = now (wanted .entry); weight = now (weight .entry) }) (now (mark .entry)) (c .0) (a .0) (b .0) h r (now (mark .exit)) (now (at .exit)) (now (queue .exit)) (now (via .exit)) (now (up .exit)) (now (off .exit)) ⌝ }
+    ensures { λ r. ⌜ Raised (record { labels = labels; gaps = gaps; left = now (left .entry); right = now (right .entry); distance = now (distance .entry); kind = now (kind .entry); wanted = now (wanted .entry); weight = now (weight .entry) }) (now (mark .entry)) (c .0) (a .0) (b .0) h r (now (mark .exit)) (now (at .exit)) (now (queue .exit)) (now (via .exit)) (now (up .exit)) (now (off .exit)) × Remarked (now (left .entry)) (now (right .entry)) (now (mark .entry)) (now (den .entry)) (now (load .entry)) (now (over .entry)) (now (mark .exit)) (now (den .exit)) (now (load .exit)) (now (over .exit)) ⌝ }
 {
     whole(mark);
-    let k = c.0;
     // A gap that is dropped may stay in the chains: a search passes none that is not marked.
     let mut out_head = [0u8; 48];
     let mut out_next = [0u8; 192];
@@ -91,11 +95,10 @@ pub(crate) fn raise(
         );
         match outcome {
             Outcome::Dropped(e) => {
-                let j = e.0;
-                mark[j] = 0;
+                change_mark(e, 0, left, right, mark, den, load, over);
             }
             Outcome::Reached => {
-                mark[k] = 1;
+                change_mark(c, 1, left, right, mark, den, load, over);
                 return true;
             }
             Outcome::Ring => {

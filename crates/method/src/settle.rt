@@ -26,9 +26,11 @@ pub fn settle(
     off: &mut [i64; 48],
     held: &mut [i64; 48],
     share: &mut [i64; 48],
+    load: &mut [i64; 192],
+    over: &mut [i64; 192],
 ) -> usize
-    requires { ⌜ Limits (record { labels = labels; gaps = gaps; left = now left; right = now right; distance = now distance; kind = now kind; wanted = now wanted; weight = now weight }) × Standing (record { labels = labels; gaps = gaps; left = now left; right = now right; distance = now distance; kind = now kind; wanted = now wanted; weight = now weight }) (now mark) (now num) (now den) ⌝ }
-    ensures { λ r. ⌜ SettleSays (record { labels = labels; gaps = gaps; left = now (left .entry); right = now (right .entry); distance = now (distance .entry); kind = now (kind .entry); wanted = now (wanted .entry); weight = now (weight .entry) }) r (now (mark .exit)) (now (num .exit)) (now (den .exit)) (now (ring .exit)) (now (back .exit)) ⌝ }
+    requires { ⌜ Limits (record { labels = labels; gaps = gaps; left = now left; right = now right; distance = now distance; kind = now kind; wanted = now wanted; weight = now weight }) × Standing (record { labels = labels; gaps = gaps; left = now left; right = now right; distance = now distance; kind = now kind; wanted = now wanted; weight = now weight }) (now mark) (now num) (now den) (now load) (now over) ⌝ }
+    ensures { λ r. ⌜ SettleSays (record { labels = labels; gaps = gaps; left = now (left .entry); right = now (right .entry); distance = now (distance .entry); kind = now (kind .entry); wanted = now (wanted .entry); weight = now (weight .entry) }) r (now (mark .exit)) (now (num .exit)) (now (den .exit)) (now (load .exit)) (now (over .exit)) (now (ring .exit)) (now (back .exit)) ⌝ }
 {
     loop {
         let next = turn(
@@ -52,6 +54,8 @@ pub fn settle(
             off,
             held,
             share,
+            load,
+            over,
         );
         match next {
             Turn::Done => {

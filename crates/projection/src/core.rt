@@ -1,5 +1,4 @@
 // The core on work arrays.
-use balance::balance_all;
 use method::settle::settle;
 use proposal::propose;
 ghost use Rattle.step.specs.Problem.{Limits};
@@ -36,8 +35,6 @@ pub(crate) fn solve(
     let mut off = [0i64; 48];
     let mut held = [0i64; 48];
     let mut share = [0i64; 48];
-    let mut num2 = [0i64; 48];
-    let mut den2 = [0i64; 48];
     if propose(
         labels,
         gaps,
@@ -63,7 +60,7 @@ pub(crate) fn solve(
     ) {
         return 0;
     }
-    let size = settle(
+    settle(
         labels,
         gaps,
         left,
@@ -84,30 +81,7 @@ pub(crate) fn solve(
         &mut off,
         &mut held,
         &mut share,
-    );
-    if size != 0 {
-        return size;
-    }
-    // the places stand in num and den already, so those of the balance are put aside
-    balance_all(
-        labels,
-        gaps,
-        left,
-        right,
-        distance,
-        mark,
-        wanted,
-        weight,
-        &mut at,
-        &mut queue,
-        &mut via,
-        &mut up,
-        &mut off,
-        &mut held,
-        &mut num2,
-        &mut den2,
         load,
         over,
-    );
-    0
+    )
 }

@@ -4,10 +4,10 @@ use Prim.Native.Nat.{_<_}
 use native.Mathlib.Omega.{arith}
 use borrow.Author.Needs.{needs}
 use Rattle.step.specs.Problem.{Problem, Limits}
-use Rattle.placing.proofs.Placing.{limits-kind}
+use Rattle.balance.proofs.Placing.{limits-kind}
 use Rattle.violation.specs.Violation.{Lacks}
 use Rattle.method.specs.Settle.{Standing}
-use Rattle.method.proofs.Turning.{Pushing, comparable, none-lacks, one-lacks, pushing, read-back, turn-again, turn-climbs, turn-ring}
+use Rattle.method.proofs.Turning.{Pushing, comparable, none-lacks, one-lacks, pushing, read-back, turn-waits, turn-again, turn-climbs, turn-ring}
 use Rattle.method.proofs.outer.turn.Statement.{statement}
 use Rattle.method.proofs.outer.turn.Tie as tie
 
@@ -29,7 +29,7 @@ problem s =
 limits : (s : tie.Start) → Limits (problem s)
 limits s = s .pre .0
 
-stands : (s : tie.Start) → Standing (problem s) (s .args .mark .now) (s .args .num .now) (s .args .den .now)
+stands : (s : tie.Start) → Standing (problem s) (s .args .mark .now) (s .args .num .now) (s .args .den .now) (s .args .load .now) (s .args .over .now)
 stands s = s .pre .1
 
 worst-gap-requires : tie.Need-worst-gap-requires
@@ -83,23 +83,28 @@ pushing-at c =
 
 raise-requires : tie.Need-raise-requires
 raise-requires c κs =
-    let o = c .before .before .before .before .before .before .before .before .before .before .before in
+    let o = c .before .before .before .before .before .before .before .before .before .before .before .before .before .before in
     let q = pushing-at o in
     (limits (start o), q .gap-in, q .from-in, q .to-in, rw (read-back (o .push-of .result .reach) (q .reach-most)) (q .reach-most))
 
 -- ---- the gap is marked
 
 abbrev push : tie.After-raise → tie.After-push-of
-push c = c .before .before .before .before .before .before .before .before .before .before .before .before
+push c = c .before .before .before .before .before .before .before .before .before .before .before .before .before .before .before
 
-place-all-requires : tie.Need-place-all-requires
-place-all-requires c κs = limits-kind [] (limits (start (push (c .before .before .before .before .before .before .before .before .before))))
+rebalance-requires : tie.Need-rebalance-requires
+rebalance-requires c κs =
+    let i = c .before .before .before .before .before .before .before .before .before .before .before in
+    let o = push (i .before) in
+    let r = i .before .raise .ensures in
+    let w = turn-waits (limits (start o)) (stands (start o)) (pushing-at o) (i .if1 .taken) (r .0) (r .1) in
+    (limits-kind [] (limits (start o)), w .0, w .1)
 
 returns-2 : tie.Need-returns-2
 returns-2 c =
-    let i = c .before .before .before .before .before .before .before .before .before in
+    let i = c .before .before .before .before .before .before .before .before .before .before .before .before in
     let o = push (i .before) in
-    turn-again (limits (start o)) (stands (start o)) (c .place-all .last .1 .1 .1 .1 .1 .1 .1 .1 .1 .1 .1 .1 .1 .0) (c .place-all .last .1 .1 .1 .1 .1 .1 .1 .1 .1 .1 .1 .1 .1 .1 .0) (pushing-at o) (i .if1 .taken) (i .before .raise .ensures) (c .place-all .ensures)
+    turn-again (limits (start o)) (stands (start o)) (c .rebalance .last .1 .1 .1 .1 .1 .1 .1 .1 .1 .1 .1 .1 .1 .1 .0) (c .rebalance .last .1 .1 .1 .1 .1 .1 .1 .1 .1 .1 .1 .1 .1 .1 .1 .0) (c .rebalance .last .1 .1 .1 .1 .1 .1 .1 .1 .1 .1 .1 .1 .1 .1 .1 .1 .0) (c .rebalance .last .1 .1 .1 .1 .1 .1 .1 .1 .1 .1 .1 .1 .1 .1 .1 .1 .1 .0) (pushing-at o) (i .if1 .taken) (i .before .raise .ensures .0) (c .rebalance .ensures)
 
 -- ---- nothing gives way
 
@@ -107,13 +112,13 @@ way-requires : tie.Need-way-requires
 way-requires c κs =
     let i = c .before .before .before .before in
     let o = push (i .before) in
-    turn-climbs (limits (start o)) (stands (start o)) (pushing-at o) (i .if1 .left) (i .before .raise .ensures)
+    turn-climbs (limits (start o)) (stands (start o)) (pushing-at o) (i .if1 .left) (i .before .raise .ensures .0)
 
 returns-3 : tie.Need-returns-3
 returns-3 c =
     let i = c .before .before .before .before .before in
     let o = push (i .before) in
-    turn-ring (limits (start o)) (stands (start o)) (pushing-at o) (i .if1 .left) (i .before .raise .ensures) (c .way .ensures)
+    turn-ring (limits (start o)) (stands (start o)) (pushing-at o) (i .if1 .left) (i .before .raise .ensures .0) (c .way .ensures)
 
 pub turn-spec : {M : Type 1} → statement M
 turn-spec =
@@ -125,7 +130,7 @@ turn-spec =
     returns
     push-of-requires
     raise-requires
-    place-all-requires
+    rebalance-requires
     returns-2
     way-requires
     returns-3)

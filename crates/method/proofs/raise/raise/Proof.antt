@@ -1,4 +1,4 @@
--- `raise::raise` meets its contract. The loop's invariant: the marks left are still a forest that the push holds (`Raising`), and in the chains.
+-- `raise::raise` meets its contract. The loop's invariant: the marks left are still a forest that the push holds (`Raising`), and in the chains, and what changed since the start is said.
 -- The measure is the count of marked gaps, one less at each turn. Assumes nothing.
 use mathlib.Core.Path.{_≡_, sym, subst}
 use Prim.Native.Nat.{_≤_, _<_}
@@ -14,16 +14,18 @@ use Rattle.step.specs.Problem.{Problem}
 use Rattle.step.specs.declared.Outcome.{Outcome}
 use Rattle.step.specs.declared.Outcome.the-variants.{Dropped, Reached, Ring}
 use Rattle.step.specs.Advance.{Gives}
+use Rattle.balance.specs.Balance.{Remarked}
+use Rattle.balance.proofs.Remarking.{remarked-none, remarked-then, changed-remarked}
 use Rattle.method.proofs.Raising.{Raising, ones, raising-start, raising-drop, raised-reached, raised-ring, ones-drop}
 use Rattle.method.proofs.raise.raise.Statement.{statement}
 use Rattle.method.proofs.raise.raise.Tie as tie
 
 abbrev Inv-loop : tie.InvT-loop
-Inv-loop labels gaps a b h left right distance kind mark₀ wanted weight at₀ queue₀ via₀ up₀ off₀ held₀ share₀ k out-head out-next in-head in-next mark at queue via up off held share =
-    Raising (record { labels = labels; gaps = gaps; left = left; right = right; distance = distance; kind = kind; wanted = wanted; weight = weight }) (a .0) (b .0) (toZ w64 h) mark₀ mark × Chained gaps left mark out-head out-next × Chained gaps right mark in-head in-next
+Inv-loop labels gaps c a b h left right distance kind mark₀ wanted weight at₀ queue₀ via₀ up₀ off₀ held₀ share₀ den₀ load₀ over₀ out-head out-next in-head in-next mark at queue via up off held share den load over =
+    Raising (record { labels = labels; gaps = gaps; left = left; right = right; distance = distance; kind = kind; wanted = wanted; weight = weight }) (a .0) (b .0) (toZ w64 h) mark₀ mark × Chained gaps left mark out-head out-next × Chained gaps right mark in-head in-next × Remarked left right mark₀ den₀ load₀ over₀ mark den load over
 
 abbrev μ-loop : tie.MeasureT-loop
-μ-loop labels gaps a b h left right distance kind mark₀ wanted weight at₀ queue₀ via₀ up₀ off₀ held₀ share₀ k out-head out-next in-head in-next mark at queue via up off held share =
+μ-loop labels gaps c a b h left right distance kind mark₀ wanted weight at₀ queue₀ via₀ up₀ off₀ held₀ share₀ den₀ load₀ over₀ out-head out-next in-head in-next mark at queue via up off held share den load over =
     ones gaps mark
 
 -- the sheet as it is lent
@@ -64,7 +66,7 @@ chain-requires c κs =
 loop-holds : tie.Need-loop-holds Inv-loop μ-loop
 loop-holds c =
     let s = c .before .before .before .before .before .before .before .before in
-    (raising-start (sheet s) (s .args .a .0) (s .args .b .0) (asked s) (s .args .mark .now) (c .before .before .before .before .before .before .whole .ensures), c .chain .ensures .0, c .chain .ensures .1)
+    (raising-start (sheet s) (s .args .a .0) (s .args .b .0) (asked s) (s .args .mark .now) (c .before .before .before .before .before .before .whole .ensures), c .chain .ensures .0, c .chain .ensures .1, remarked-none)
 
 advance-requires : tie.Need-advance-requires Inv-loop μ-loop
 advance-requires c κs = (c .before .before .before .before .before .before .before .before .before .before .before .before .before .before .before .before .before .before .before .before .before .pre .0, c .before .before .before .before .before .before .before .before .before .before .before .before .before .before .before .before .before .before .before .before .before .pre .2, c .before .before .before .before .before .before .before .before .before .before .before .before .before .before .before .before .before .before .before .before .before .pre .3, subst (λ (x : ℤ). natAbs x ≤ 20000) (sym (same-asked (c .before .before .before .before .before .before .before .before .before .before .before .before .before .before .before .before .before .before .before .before .before))) (c .before .before .before .before .before .before .before .before .before .before .before .before .before .before .before .before .before .before .before .before .before .pre .4), c .before .before .before .before .before .before .before .before .before .before .before .before .loop .inv .1, c .before .before .before .before .before .before .before .before .before .before .before .before .loop .inv .2)
@@ -72,33 +74,62 @@ advance-requires c κs = (c .before .before .before .before .before .before .bef
 enum-known-outcome : tie.Need-enum-known-outcome Inv-loop μ-loop
 enum-known-outcome c = search needs
 
-element-write-mark : tie.Need-element-write-mark Inv-loop μ-loop
-element-write-mark c = omega (arith, dropped c .gap-in, c .before .before .before .before .before .before .before .before .before .before .before .before .before .before .before .before .before .before .before .before .before .before .before .before .before .pre .0 .gaps-most)
+-- what is known where the mark of the gap that gives way is changed
+abbrev drops : tie.After-change-mark Inv-loop μ-loop → tie.After-known-told Inv-loop μ-loop
+drops c = c .before .before .before .before .before
+
+abbrev at-drop : tie.After-change-mark Inv-loop μ-loop → tie.At-loop Inv-loop μ-loop
+at-drop c = c .before .before .before .before .before .before .before .before .before .before .before .before .before .before .before .before .before .before .before .before .before
+
+abbrev start-drop : tie.After-change-mark Inv-loop μ-loop → tie.Start Inv-loop μ-loop
+start-drop c = c .before .before .before .before .before .before .before .before .before .before .before .before .before .before .before .before .before .before .before .before .before .before .before .before .before .before .before .before .before .before
+
+change-mark-requires : tie.Need-change-mark-requires Inv-loop μ-loop
+change-mark-requires c κs =
+    let lim = c .before .before .before .before .before .before .before .before .before .before .before .before .before .before .before .before .before .before .before .before .before .before .before .before .before .before .before .before .before .pre .0 in
+    let l = dropped (c .before .before .before .before) .gap-in in
+    let e = c .before .before .before .before .before .outcome .given .0 .0 .0 in
+    (omega (arith, l, lim .gaps-most), omega (arith, lim .left-in e l, lim .labels-most), omega (arith, lim .right-in e l, lim .labels-most))
+
+in-marks : (c : tie.After-change-mark Inv-loop μ-loop) → drops c .before .outcome .given .0 .0 .0 < length (at-drop c .loop .mark)
+in-marks c = omega (arith, dropped (drops c) .gap-in, start-drop c .pre .0 .gaps-most, at-drop c .loop .inv .0 .whole)
 
 loop-less : tie.Need-loop-less Inv-loop μ-loop
-loop-less c = ones-drop (c .before .before .before .before .before .before .before .before .before .before .before .before .before .before .before .before .before .before .before .before .before .before .before .before .before .args .gaps) (c .before .before .before .before .before .before .before .before .before .before .before .before .before .before .before .before .loop .mark) (c .before .outcome .given .0 .0 .0) (dropped c .gap-in) (omega (arith, dropped c .gap-in, c .before .before .before .before .before .before .before .before .before .before .before .before .before .before .before .before .before .before .before .before .before .before .before .before .before .pre .0 .gaps-most, c .before .before .before .before .before .before .before .before .before .before .before .before .before .before .before .before .loop .inv .0 .whole)) (dropped c .marked)
+loop-less c = rw (c .change-mark .ensures .marks) (ones-drop (start-drop c .args .gaps) (at-drop c .loop .mark) (drops c .before .outcome .given .0 .0 .0) (dropped (drops c) .gap-in) (in-marks c) (dropped (drops c) .marked))
 
 loop-again : tie.Need-loop-again Inv-loop μ-loop
 loop-again c =
-    let j = c .before .outcome .given .0 .0 .0 in
-    let i = c .before .before .before .before .before .before .before .before .before .before .before .before .before .before .before .before .loop .inv in
-    let j-in : j < length (c .before .before .before .before .before .before .before .before .before .before .before .before .before .before .before .before .loop .mark) = omega (arith, dropped c .gap-in, c .before .before .before .before .before .before .before .before .before .before .before .before .before .before .before .before .before .before .before .before .before .before .before .before .before .pre .0 .gaps-most, c .before .before .before .before .before .before .before .before .before .before .before .before .before .before .before .before .loop .inv .0 .whole) in
-    (raising-drop (c .before .before .before .before .before .before .before .before .before .before .before .before .before .before .before .before .before .before .before .before .before .before .before .before .before .pre .0 .gaps-most) (c .before .before .before .before .before .before .before .before .before .before .before .before .before .before .before .before .loop .inv .0) (dropped c), chained-drop j j-in (i .1), chained-drop j j-in (i .2))
+    let j = drops c .before .outcome .given .0 .0 .0 in
+    let i = at-drop c .loop .inv in
+    let ch = c .change-mark .ensures in
+    let most = start-drop c .pre .0 .gaps-most in
+    (rw (ch .marks) (raising-drop most (i .0) (dropped (drops c))), rw (ch .marks) (chained-drop j (in-marks c) (i .1)), rw (ch .marks) (chained-drop j (in-marks c) (i .2)), remarked-then (i .3) (changed-remarked (omega (arith, dropped (drops c) .gap-in, most)) ch))
 
 enum-told : tie.Need-enum-told Inv-loop μ-loop
 enum-told c = search needs
 
-element-write-mark-2 : tie.Need-element-write-mark-2 Inv-loop μ-loop
-element-write-mark-2 c = omega (arith, c .before .before .before .before .before .before .before .before .before .before .before .before .before .before .before .before .before .before .before .before .before .before .before .before .pre .1, c .before .before .before .before .before .before .before .before .before .before .before .before .before .before .before .before .before .before .before .before .before .before .before .before .pre .0 .gaps-most)
+change-mark-requires-2 : tie.Need-change-mark-requires-2 Inv-loop μ-loop
+change-mark-requires-2 c κs =
+    let lim = c .before .before .before .before .before .before .before .before .before .before .before .before .before .before .before .before .before .before .before .before .before .before .before .before .before .before .before .before .pre .0 in
+    let l = c .before .before .before .before .before .before .before .before .before .before .before .before .before .before .before .before .before .before .before .before .before .before .before .before .before .before .before .before .pre .1 in
+    let e = c .before .before .before .before .before .before .before .before .before .before .before .before .before .before .before .before .before .before .before .before .before .before .before .before .before .before .before .before .args .c .0 in
+    (omega (arith, l, lim .gaps-most), omega (arith, lim .left-in e l, lim .labels-most), omega (arith, lim .right-in e l, lim .labels-most))
 
 returns : tie.Need-returns Inv-loop μ-loop
-returns c = raised-reached (c .before .before .before .before .before .before .before .before .before .before .before .before .before .before .before .before .before .before .before .before .before .before .before .before .args .c .0) (same-asked (c .before .before .before .before .before .before .before .before .before .before .before .before .before .before .before .before .before .before .before .before .before .before .before .before)) (c .before .before .before .before .before .before .before .before .before .before .before .before .before .before .before .before .before .before .before .before .before .before .before .before .pre .0) (c .before .before .before .before .before .before .before .before .before .before .before .before .before .before .before .before .before .before .before .before .before .before .before .before .pre .1) (c .before .before .before .before .before .before .before .before .before .before .before .before .before .before .before .loop .inv .0) (reached c)
+returns c =
+    let s = c .before .before .before .before .before .before .before .before .before .before .before .before .before .before .before .before .before .before .before .before .before .before .before .before .before .before .before .before .before in
+    let i = c .before .before .before .before .before .before .before .before .before .before .before .before .before .before .before .before .before .before .before .before .loop .inv in
+    let ch = c .change-mark2 .ensures in
+    (rw (ch .marks) (raised-reached (s .args .c .0) (same-asked s) (s .pre .0) (s .pre .1) (i .0) (reached (c .before .before .before .before .before))), remarked-then (i .3) (changed-remarked (omega (arith, s .pre .1, s .pre .0 .gaps-most)) ch))
 
 enum-told-2 : tie.Need-enum-told-2 Inv-loop μ-loop
 enum-told-2 c = search needs
 
 returns-2 : tie.Need-returns-2 Inv-loop μ-loop
-returns-2 c = raised-ring (c .before .before .before .before .before .before .before .before .before .before .before .before .before .before .before .before .before .before .before .before .before .before .before .before .args .c .0) (same-asked (c .before .before .before .before .before .before .before .before .before .before .before .before .before .before .before .before .before .before .before .before .before .before .before .before)) (c .before .before .before .before .before .before .before .before .before .before .before .before .before .before .before .loop .inv .0) (ring c)
+returns-2 c =
+    let s = c .before .before .before .before .before .before .before .before .before .before .before .before .before .before .before .before .before .before .before .before .before .before .before .before in
+    let i = c .before .before .before .before .before .before .before .before .before .before .before .before .before .before .before .loop .inv in
+    (raised-ring (s .args .c .0) (same-asked s) (i .0) (ring c), i .3)
 
 pub raise-spec : {M : Type 1} → statement M
 raise-spec =
@@ -111,11 +142,11 @@ raise-spec =
     loop-holds
     advance-requires
     enum-known-outcome
-    element-write-mark
+    change-mark-requires
     loop-less
     loop-again
     enum-told
-    element-write-mark-2
+    change-mark-requires-2
     returns
     enum-told-2
     returns-2)

@@ -1,7 +1,7 @@
 -- The places of a block's labels: its sums give a fraction for each, and wherever the marked gaps are tight and balance all alone the label
--- stands there. Then the loop that places all labels.
+-- stands there.
 use mathlib.Core.Path.{_≡_, refl, sym, _∙_, ap}
-use mathlib.Core.Logic.{_⊎_, inl, inr, ⊎-elim, _≢_}
+use mathlib.Core.Logic.{inl, inr}
 use mathlib.Core.List.{List, [], _∷_}
 use Prim.Native.Nat.{ℕ, zero, suc, _+_, _*_, _≤_, _<_}
 use native.Mathlib.Omega.{arith}
@@ -9,9 +9,6 @@ use native.Mathlib.Nat.{mul-le-mul}
 use lib.IntN.{ℤ, pos, natAbs, _+ℤ_, _-ℤ_, _*ℤ_}
 use lib.Signed.{_≤ℤ_}
 use lib.Dec.{eqb}
-use lib.ListN.{set}
-use lib.Seq.{getD-set-other}
-use borrow.Author.Count.{below-more}
 use Rattle.exact.specs.Sum.{sum}
 use Rattle.exact.proofs.Ring.{ring, quotes, eq-given, eq-goal}
 use Rattle.exact.proofs.Whole.{parts-+, parts-natAbs, le-parts, parts-le, no-nn}
@@ -26,7 +23,7 @@ use Rattle.elimination.proofs.Ranges.{plus-most, times-most}
 use Rattle.elimination.proofs.TreeFlow.{isSeen, mean-at}
 use Rattle.step.specs.Problem.{Problem, Limits, graphOf, marksOf, numbersOf}
 use Rattle.step.proofs.SearchedBlock.{limits-graph, block-listed, of-block, unseen, gaps-inside, spread-most, block-range, block-sums}
-use Rattle.placing.specs.Places.{LabelPlaced, BlockPlaced, PlacesFound}
+use Rattle.balance.specs.Places.{LabelPlaced, BlockPlaced, PlacesFound}
 
 -- ---- kinds do not matter
 
@@ -132,47 +129,3 @@ module _ {p : Problem} {mark : List ℕ} {root count : ℕ} {at queue via up : L
       where
         at-position : (k : ℕ) → k < count → LabelPlaced p mark (nat queue k) (int num (nat queue k)) (int den (nat queue k))
         at-position k l = rw (gn .inside k l, gd .inside k l) (label-placed k l)
-
--- ---- the loop over all labels
-
--- an entry set to zero, and the entries before it
-zeroed : (l : List ℤ) (i : ℕ) → int (set l i (pos 0)) i ≡ pos 0
-zeroed [] i = refl
-zeroed (a ∷ l) zero = refl
-zeroed (a ∷ l) (suc i) = zeroed l i
-
-pub cleared : (l : List ℤ) (i : ℕ) → ((x : ℕ) → x < i → int l x ≡ pos 0) → (x : ℕ) → x < i + 1 → int (set l i (pos 0)) x ≡ pos 0
-cleared l i h =
-    below-more (λ x. int (set l i (pos 0)) x ≡ pos 0) i
-    (λ x k. getD-set-other l i x (pos 0) (pos 0) (λ (e : x ≡ i). omega arith) ∙ h x k)
-    (zeroed l i)
-
--- the labels before label i are placed, and so is every label whose denominator is not zero
-pub record PlacedBefore (p : Problem) (mark : List ℕ) (i : ℕ) (num den : List ℤ) : Type 0 where
-  pub passed : (j : ℕ) → j < i → j < p .labels → LabelPlaced p mark j (int num j) (int den j)
-  pub other : (j : ℕ) → j < p .labels → LabelPlaced p mark j (int num j) (int den j) ⊎ (int den j ≡ pos 0)
-
-pub before-none : {p : Problem} {mark : List ℕ} {num den : List ℤ} → p .labels ≤ 48 → ((x : ℕ) → x < 48 → int den x ≡ pos 0) → PlacedBefore p mark 0 num den
-before-none l z = record { passed = λ j h _. absurd (omega arith); other = λ j h. inr (z j (omega arith)) }
-
--- a label with a denominator is passed over
-pub before-skip : {p : Problem} {mark : List ℕ} {i : ℕ} {num den : List ℤ} → i < p .labels → int den i ≢ pos 0 → PlacedBefore p mark i num den → PlacedBefore p mark (i + 1) num den
-before-skip {p} {mark} {i} {num} {den} l d b = record {
-  passed = below-more (λ j. j < p .labels → LabelPlaced p mark j (int num j) (int den j)) i (b .passed) (λ _. ⊎-elim (λ q. q) (λ (z : int den i ≡ pos 0). absurd (d z)) (b .other i l));
-  other = b .other;
-}
-
--- the block of a label is placed; the labels placed before stay so, or are placed again
-pub before-block : {p : Problem} {mark : List ℕ} {i : ℕ} {num₀ den₀ num den : List ℤ} → PlacedBefore p mark i num₀ den₀ → BlockPlaced p mark i num₀ den₀ num den → PlacedBefore p mark (i + 1) num den
-before-block {p} {mark} {i} {num₀} {den₀} {num} {den} b q = record {
-  passed = below-more (λ j. j < p .labels → LabelPlaced p mark j (int num j) (int den j)) i (λ j h l. ⊎-elim (λ r. r) (λ (k : (int num j ≡ int num₀ j) × (int den j ≡ int den₀ j)). rw (k .0, k .1) (b .passed j h l)) (q .placed-or-kept j l)) (λ _. q .root-placed);
-  other = λ j l. ⊎-elim inl
-      (λ (k : (int num j ≡ int num₀ j) × (int den j ≡ int den₀ j)). ⊎-elim
-      (λ (r : LabelPlaced p mark j (int num₀ j) (int den₀ j)). inl (rw (k .0, k .1) r))
-      (λ (z : int den₀ j ≡ pos 0). inr (k .1 ∙ z))
-      (b .other j l))
-      (q .placed-or-kept j l);
-}
-
-pub before-all : {p : Problem} {mark : List ℕ} {i : ℕ} {num den : List ℤ} → p .labels ≤ i → PlacedBefore p mark i num den → PlacesFound p mark num den
-before-all h b j l = b .passed j (omega arith) l
