@@ -15,7 +15,7 @@ use mir.Val.{SFits, toZ, ofZ}
 use mir.ValLaws.{sfits-le, toZ-ofZ}
 use Rattle.exact.specs.declared.Fraction.{Fraction}
 use Rattle.exact.specs.Fraction.{_≃_, LowestTerms, Reduced}
-use Rattle.exact.specs.Divide.{GreatestCommonDivisor, IsDivisor}
+use Rattle.exact.specs.Divide.{GreatestCommonDivisor, IsDivisor, noDivisor}
 use Rattle.exact.proofs.Whole.{pp-*, nn-*, pp-neg, nn-neg, parts-natAbs, by-parts, lt-parts, parts-lt, *ℤ-cancel, *ℤ-lt-cancel}
 use Rattle.exact.proofs.Ring.{ring, quotes}
 
@@ -172,6 +172,9 @@ is-divisor {den} {rest} {a} {b} {g} h ea eb c =
       positive = parts-lt {a = pos 0} {b = pos g} (omega (arith, gcd-bounds (rw ea (natAbs-above h)) c));
       divides = rw (← ea, ← eb) (gcd-swap c);
     }
+
+pub none-divides : IsDivisor noDivisor
+none-divides = is-divisor (record { lt = tt }) refl refl (gcd-end 1)
 
 -- it divides the numerator too
 pub gcd-rem : (z d : ℤ) {g : ℕ} → GreatestCommonDivisor (natAbs (remZ z d)) (natAbs d) g → GreatestCommonDivisor (natAbs z) (natAbs d) g

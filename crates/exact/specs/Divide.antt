@@ -20,6 +20,10 @@ pub record IsDivisor (d : Divisor) : Type 0 where
   pub positive : pos 0 <ℤ d .common
   pub divides : GreatestCommonDivisor (natAbs (d .rest)) (natAbs (d .den)) (natAbs (d .common))
 
+-- what stands for the divisor where none is known: that of 0/1
+abbrev pub noDivisor : Divisor
+noDivisor = record { den = pos 1; rest = pos 0; common = pos 1 }
+
 -- where a whole number stands to another
 unfoldable pub orderZ : ℤ → ℤ → Order
 orderZ x y = cond (ltZ x y) Below (cond (ltZ y x) Above Same)

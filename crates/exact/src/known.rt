@@ -1,5 +1,6 @@
 // The divisor that is known from one fraction to the next.
-ghost use Rattle.exact.specs.Divide.{IsDivisor};
+ghost use mathlib.Core.Path.{_≡_};
+ghost use Rattle.exact.specs.Divide.{noDivisor};
 
 // A denominator, the remainder of a numerator by it, and their greatest common divisor.
 pub struct Divisor {
@@ -10,7 +11,7 @@ pub struct Divisor {
 
 // The divisor of 0/1, where none is known before.
 pub fn no_divisor() -> Divisor
-    ensures { λ r. ⌜ IsDivisor r ⌝ }
+    ensures { λ r. ⌜ r ≡ noDivisor ⌝ }
 {
     Divisor {
         den: 1,

@@ -5,12 +5,12 @@ use mathlib.Core.Logic.{_⊎_, inl, inr}
 use mathlib.Core.Bool.{Bool, true, false}
 use mathlib.Core.List.{List, [], _∷_}
 use Prim.Native.Nat.{ℕ, _<_}
-use lib.IntN.{ℤ, pos, negℤ, _+ℤ_, _-ℤ_, _*ℤ_, zero-*ℤ}
+use lib.IntN.{ℤ, pos, negℤ, _+ℤ_, _-ℤ_, _*ℤ_, *ℤ-zero, zero-*ℤ}
 use lib.Dec.{eqb}
 use borrow.Author.Tests.{eqb-true, ne-eqb, eq-eqb}
 use Rattle.exact.specs.Sum.{sum}
 use Rattle.exact.proofs.Ring.{ring, quotes}
-use Rattle.exact.proofs.Sum.{ind, sum-cong, sum-+, sum--, sum-*, sum-swap, sum-one-term}
+use Rattle.exact.proofs.Sum.{ind, sum-cong, sum-+, sum--, sum-*, sum-swap, sum-one-term, sum-zero}
 
 -- what the gaps bring to label i as their right end, less what they take from it as their left
 abbrev pub flow : (m : ℕ) (u v : ℕ → ℕ) (Λ : ℕ → ℤ) → ℕ → ℤ
@@ -74,3 +74,10 @@ flow-local m u v Λ M i same = ap₂ (λ x y. x -ℤ y) (side v (λ e h q. same 
 
     side : (w : ℕ → ℕ) → ((e : ℕ) → e < m → w e ≡ i → Λ e ≡ M e) → sum m (λ e. ind (eqb (w e) i) *ℤ Λ e) ≡ sum m (λ e. ind (eqb (w e) i) *ℤ M e)
     side w s = sum-cong m (λ e. ind (eqb (w e) i) *ℤ Λ e) (λ e. ind (eqb (w e) i) *ℤ M e) (λ e h. term (eqb (w e) i) (Λ e) (M e) (λ t. s e h (eqb-true (w e) i t)))
+
+-- where nothing is carried nothing flows
+pub flow-zero : (m : ℕ) (u v : ℕ → ℕ) (Λ : ℕ → ℤ) (i : ℕ) → ((e : ℕ) → Λ e ≡ pos 0) → flow m u v Λ i ≡ pos 0
+flow-zero m u v Λ i z = ap₂ (λ x y. x -ℤ y) (side v) (side u)
+  where
+    side : (w : ℕ → ℕ) → sum m (λ e. ind (eqb (w e) i) *ℤ Λ e) ≡ pos 0
+    side w = sum-zero m (λ e. ind (eqb (w e) i) *ℤ Λ e) (λ e _. ap (λ x. ind (eqb (w e) i) *ℤ x) (z e) ∙ *ℤ-zero (ind (eqb (w e) i)))

@@ -9,7 +9,7 @@ use lib.Seq.{drop-set-lt, drop-drop, getD-set-same, getD-set-other}
 use native.Mathlib.Nat.{eq-one-of-dvd-one}
 use lib.IntN.{ℤ, pos, *ℤ-comm, *ℤ-zero}
 use lib.Signed.{_≤ℤ_, _<ℤ_}
-use Rattle.exact.proofs.Whole.{le-parts, parts-lt}
+use Rattle.exact.proofs.Whole.{parts-lt}
 use Rattle.exact.specs.declared.Fraction.{Fraction}
 use Rattle.exact.specs.Fraction.{Reduced}
 use Rattle.projection.specs.Core.{fraction}
@@ -43,9 +43,6 @@ module _ {A : Type 0} where
 
   pub copied-end : {n k : ℕ} {from before after : List A} {none : A} → FrontWritten k from before after none → k ≤ n → n ≤ k → FrontWritten n from before after none
   copied-end {n} {k} w h g = let e : n ≡ k = omega arith in rw e w
-
-pub above-zero : {z : ℤ} → pos 1 ≤ℤ z → pos 0 <ℤ z
-above-zero {z} h = parts-lt (omega (arith, le-parts h))
 
 -- The pass that reduces: after k turns the first k fractions are the source's in lowest terms.
 pub reduced-start : (num den upper lower : List ℤ) → FractionsWritten 0 num den upper lower upper lower

@@ -2,6 +2,7 @@
 use mir.Syntax.{w64}
 use mir.ValLaws.{toZ-ofZ}
 use borrow.Author.Needs.{needs}
+use Rattle.exact.proofs.Divisor.{none-divides}
 use Rattle.exact.proofs.divide.lowest.Statement.{statement}
 use Rattle.exact.proofs.divide.lowest.Tie as tie
 
@@ -9,7 +10,7 @@ no-divisor-requires : tie.Need-no-divisor-requires
 no-divisor-requires c κs = search needs
 
 divisor-requires : tie.Need-divisor-requires
-divisor-requires c κs = search needs
+divisor-requires c κs = (search needs, rw (c .no-divisor .ensures) none-divides)
 
 lowest-by-requires : tie.Need-lowest-by-requires
 lowest-by-requires c κs = search needs

@@ -8,9 +8,10 @@ use mir.Syntax.{w64}
 use mir.Val.{toZ, ofZ}
 use Rattle.exact.specs.Fraction.{Reduced}
 use Rattle.forest.specs.Tree.{int}
+use Rattle.balance.proofs.Balance.{above-of}
 use Rattle.projection.specs.Core.{fraction}
 use Rattle.projection.specs.Project.{FractionsWritten}
-use Rattle.projection.proofs.Passes.{above-zero, reduced-start, reduced-turn, reduced-end}
+use Rattle.projection.proofs.Passes.{reduced-start, reduced-turn, reduced-end}
 use Rattle.projection.proofs.write.multipliers_out.Statement.{statement}
 use Rattle.projection.proofs.write.multipliers_out.Tie as tie
 
@@ -39,7 +40,7 @@ reduced-requires : tie.Need-reduced-requires Inv-loop μ-loop
 reduced-requires c κs =
     let d = int (c .before .before .before .before .args .den .now) (c .before .before .before .loop .k) in
     let e : toZ w64 (ofZ w64 d) ≡ d = search needs in
-    rw e (above-zero (c .before .before .before .before .pre .3 (c .before .before .before .loop .k) (c .before .before .loop-test .taken)))
+    rw e (above-of (c .before .before .before .before .pre .3 (c .before .before .before .loop .k) (c .before .before .loop-test .taken)))
 
 mul-top : tie.Need-mul-top Inv-loop μ-loop
 mul-top c = omega arith

@@ -8,10 +8,12 @@ use mir.Syntax.{w64}
 use mir.Val.{toZ, ofZ}
 use Rattle.exact.specs.Fraction.{Reduced}
 use Rattle.exact.specs.Divide.{IsDivisor}
+use Rattle.exact.proofs.Divisor.{none-divides}
 use Rattle.forest.specs.Tree.{int}
+use Rattle.balance.proofs.Balance.{above-of}
 use Rattle.projection.specs.Core.{fraction}
 use Rattle.projection.specs.Project.{FractionsWritten}
-use Rattle.projection.proofs.Passes.{above-zero, reduced-start, reduced-turn, reduced-end}
+use Rattle.projection.proofs.Passes.{reduced-start, reduced-turn, reduced-end}
 use Rattle.projection.proofs.write.places_out.Statement.{statement}
 use Rattle.projection.proofs.write.places_out.Tie as tie
 
@@ -25,7 +27,7 @@ no-divisor-requires : tie.Need-no-divisor-requires Inv-loop μ-loop
 no-divisor-requires c κs = search needs
 
 loop-holds : tie.Need-loop-holds Inv-loop μ-loop
-loop-holds c = (omega arith, reduced-start _ _ _ _, c .no-divisor .ensures)
+loop-holds c = (omega arith, reduced-start _ _ _ _, rw (c .no-divisor .ensures) none-divides)
 
 mul-n : tie.Need-mul-n Inv-loop μ-loop
 mul-n c = omega arith
@@ -44,7 +46,7 @@ divisor-requires c κs =
     let s = c .before .before .before .before .before in
     let w = c .before .before .before .loop in
     let e : toZ w64 (ofZ w64 (int (s .args .den .now) (w .k))) ≡ int (s .args .den .now) (w .k) = search needs in
-    (rw e (above-zero (s .pre .3 (w .k) (c .before .before .loop-test .taken))), w .inv .2)
+    (rw e (above-of (s .pre .3 (w .k) (c .before .before .loop-test .taken))), w .inv .2)
 
 lowest-by-requires : tie.Need-lowest-by-requires Inv-loop μ-loop
 lowest-by-requires c κs = c .divisor .ensures
