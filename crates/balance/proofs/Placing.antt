@@ -1,7 +1,7 @@
 -- The places of a block's labels: its sums give a fraction for each, and wherever the marked gaps are tight and balance all alone the label
 -- stands there.
 use mathlib.Core.Path.{_≡_, refl, sym, _∙_, ap}
-use mathlib.Core.Logic.{inl, inr}
+use mathlib.Core.Logic.{_⊎_, inl, inr}
 use mathlib.Core.List.{List, [], _∷_}
 use Prim.Native.Nat.{ℕ, zero, suc, _+_, _*_, _≤_, _<_}
 use native.Mathlib.Omega.{arith}
@@ -23,7 +23,7 @@ use Rattle.elimination.proofs.Ranges.{plus-most, times-most}
 use Rattle.elimination.proofs.TreeFlow.{isSeen, mean-at}
 use Rattle.step.specs.Problem.{Problem, Limits, graphOf, marksOf, numbersOf}
 use Rattle.step.proofs.SearchedBlock.{limits-graph, block-listed, of-block, unseen, gaps-inside, spread-most, block-range, block-sums}
-use Rattle.balance.specs.Places.{LabelPlaced, BlockPlaced, PlacesFound}
+use Rattle.balance.specs.Places.{LabelPlaced, PlacesFound}
 
 -- ---- kinds do not matter
 
@@ -118,14 +118,9 @@ module _ {p : Problem} {mark : List ℕ} {root count : ℕ} {at queue via up : L
           (rw (hp, hw) (mean-at (limits-graph mark lim) t X N (st .tight) (int (p .weight)) (int (p .wanted)) (pos 0) (block-balance N X Λ st) k l));
     }
 
-    -- what the pass over the block leaves
-    pub block-placed : {num₀ den₀ num den : List ℤ} → Given count queue (numerator s off) num₀ num → Given count queue (λ x. s .weight) den₀ den → BlockPlaced p mark root num₀ den₀ num den
-    block-placed {num₀} {den₀} {num} {den} gn gd = record {
-      root-placed = rw (t .first) at (at-position 0 (t .some));
-      placed-or-kept = λ j l. by-mark (isSeen at j)
-          (λ b. inl (of-block lim t (λ x. LabelPlaced p mark x (int num x) (int den x)) at-position j l b))
-          (λ b. inr (gn .outside j (unseen lim t j b), gd .outside j (unseen lim t j b)));
-    }
-      where
-        at-position : (k : ℕ) → k < count → LabelPlaced p mark (nat queue k) (int num (nat queue k)) (int den (nat queue k))
-        at-position k l = rw (gn .inside k l, gd .inside k l) (label-placed k l)
+    -- after the pass over the block a label of it stands there, and any other is as it was
+    pub block-placed : {num₀ den₀ num den : List ℤ} → Given count queue (numerator s off) num₀ num → Given count queue (λ x. s .weight) den₀ den → (j : ℕ) → j < p .labels → LabelPlaced p mark j (int num j) (int den j) ⊎ ((int num j ≡ int num₀ j) × (int den j ≡ int den₀ j))
+    block-placed {num₀} {den₀} {num} {den} gn gd j l =
+        by-mark (isSeen at j)
+        (λ b. inl (of-block lim t (λ x. LabelPlaced p mark x (int num x) (int den x)) (λ k h. rw (gn .inside k h, gd .inside k h) (label-placed k h)) j l b))
+        (λ b. inr (gn .outside j (unseen lim t j b), gd .outside j (unseen lim t j b)))

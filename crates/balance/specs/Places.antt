@@ -1,7 +1,6 @@
 -- The places that the marked gaps give.
 use Prim.Native.Nat.{ℕ, _+_, _*_, _≤_, _<_}
 use mathlib.Core.Path.{_≡_}
-use mathlib.Core.Logic.{_⊎_}
 use mathlib.Core.List.{List}
 use lib.IntN.{ℤ, pos, natAbs, _*ℤ_}
 use lib.Signed.{_≤ℤ_, _<ℤ_}
@@ -15,11 +14,6 @@ pub record LabelPlaced (p : Problem) (mark : List ℕ) (j : ℕ) (num den : ℤ)
   pub den-most : (B : ℕ) → ((i : ℕ) → i < p .labels → natAbs (int (p .weight) i) ≤ B) → natAbs den ≤ 48 * B
   pub num-most : (B : ℕ) → ((i : ℕ) → i < p .labels → natAbs (int (p .wanted) i) ≤ B) → natAbs num ≤ (B + 940000) * natAbs den
   pub placed : (N : ℤ) (X Λ : ℕ → ℤ) → pos 0 <ℤ N → StateAt (numbersOf p) (marksOf mark) 0 0 N (pos 0) X Λ → X j *ℤ den ≡ N *ℤ num
-
--- the labels of a block are placed, the others stay as they were
-pub record BlockPlaced (p : Problem) (mark : List ℕ) (root : ℕ) (num₀ den₀ num den : List ℤ) : Type 0 where
-  pub root-placed : LabelPlaced p mark root (int num root) (int den root)
-  pub placed-or-kept : (j : ℕ) → j < p .labels → LabelPlaced p mark j (int num j) (int den j) ⊎ ((int num j ≡ int num₀ j) × (int den j ≡ int den₀ j))
 
 -- every label is placed
 abbrev pub PlacesFound : Problem → List ℕ → List ℤ → List ℤ → Type 0

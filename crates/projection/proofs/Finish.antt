@@ -87,7 +87,7 @@ module _ (p : Problem) (mark : List ℕ) (num den load over : List ℤ) (lim : L
     placed i h = reduced-scale (s .settled .N) (s .settled .X (i .0)) (int num (i .0)) (int den (i .0)) (place i) (above-of (s .found (i .0) h .den-least)) (s .settled .places (i .0) h) (wr .places (i .0) h)
 
     loaded : (e : GapNumber) → e .0 < p .gaps → IsFraction (multiplier e) × AtScale (s .settled .N) (s .settled .Λ (e .0)) (multiplier e)
-    loaded e h = reduced-scale (s .settled .N) (s .settled .Λ (e .0)) (int load (e .0)) (int over (e .0)) (multiplier e) (above-of (s .balanced .over-least (e .0) h)) (settled-loads lim s (e .0) h) (wr .multipliers (e .0) h)
+    loaded e h = reduced-scale (s .settled .N) (s .settled .Λ (e .0)) (int load (e .0)) (int over (e .0)) (multiplier e) (above-of (s .balanced .part .over-least (e .0) h)) (settled-loads lim s (e .0) h) (wr .multipliers (e .0) h)
 
     written-conditions : Conditions (sheetFrom p) place multiplier
     written-conditions = conditions-of (sheetFrom p) (sound-proper (sheetFrom p) (limits-sound lim)) (marksOf mark) (s .forest) (s .settled .N) (s .settled .X) (s .settled .Λ) (s .settled .above) (s .settled .state) (s .settled .lawful) (meets-settled lim s all) place multiplier placed loaded
@@ -99,7 +99,7 @@ module _ (p : Problem) (mark : List ℕ) (num den load over : List ℤ) (lim : L
   finish = record {
     bytes = s .bytes;
     den-least = λ i h. s .found i h .den-least;
-    over-least = s .balanced .over-least;
+    over-least = s .balanced .part .over-least;
     den-most = λ i h. s .found i h .den-most;
     num-most = λ i h. s .found i h .num-most;
     conditions = written-conditions;

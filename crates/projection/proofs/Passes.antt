@@ -8,7 +8,7 @@ use lib.ListN.{length, getD, set, drop, length-set}
 use lib.Seq.{drop-set-lt, drop-drop, getD-set-same, getD-set-other}
 use native.Mathlib.Nat.{eq-one-of-dvd-one}
 use lib.IntN.{ℤ, pos, *ℤ-comm, *ℤ-zero}
-use lib.Signed.{_≤ℤ_, _<ℤ_}
+use lib.Signed.{_<ℤ_}
 use Rattle.exact.proofs.Whole.{parts-lt}
 use Rattle.exact.specs.declared.Fraction.{Fraction}
 use Rattle.exact.specs.Fraction.{Reduced}
