@@ -1,8 +1,7 @@
 // Lays out the bench sheets of document 01 that have no P, each from several carried records, and prints places, multipliers, marks and rings.
-use layout::Answer;
+use ground::Answer;
+use ground::signs::magnitude;
 use layout::lists::lay_out;
-ghost use mathlib.Core.Path.{_≡_};
-ghost use lib.IntN.{natAbs};
 
 // The ends of the chain's gaps, and those of a ring through all labels with its distances.
 const LEFT: [usize; 47] = [
@@ -257,17 +256,6 @@ const AROUND: [i64; 48] = [
     0,
     0,
 ];
-
-// A number without its sign.
-fn magnitude(x: i64) -> u64
-    ensures { λ r. ⌜ r ≡ natAbs x ⌝ }
-{
-    if x < 0 {
-        (0 - (x + 1)) as u64 + 1
-    } else {
-        x as u64
-    }
-}
 
 // Writes a fraction: a space, the numerator, and the denominator where it is not 1.
 fn print_fraction(num: i64, den: i64) {

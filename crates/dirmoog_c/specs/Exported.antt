@@ -3,9 +3,10 @@ use Prim.Native.Nat.{ℕ}
 use mathlib.Core.Path.{_≡_}
 use mathlib.Core.List.{List}
 use lib.ListN.{set}
-use Rattle.layout.specs.declared.Answer.{Answer}
-use Rattle.layout.specs.Lent.{Read, Written}
-use Rattle.layout.specs.Promise.{Promise, numberOf, placedAt, ringLengthOf}
+use Rattle.ground.specs.declared.Answer.{Answer}
+use Rattle.sheet_checks.specs.Lent.{Read, Written}
+use Rattle.layout.specs.Promise.{Promise}
+use Rattle.ground.specs.Answers.{numberOf, placedAt, ringLengthOf}
 
 -- two numbers told at the front of a lent list; setting an entry that the list has not leaves it as it is, so what fits is told
 abbrev pub told : ℕ → ℕ → List ℕ → List ℕ

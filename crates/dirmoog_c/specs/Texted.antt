@@ -4,14 +4,14 @@ use mathlib.Core.Path.{_≡_}
 use mathlib.Core.Bool.{cond}
 use mathlib.Core.List.{List}
 use lib.Dec.{eqb}
-use Rattle.layout.specs.declared.Answer.{Answer}
-use Rattle.layout.specs.declared.Answer.the-variants.{Placed}
-use Rattle.layout.specs.Promise.{refusal}
-use Rattle.sheet_text.specs.declared.Reading.{Reading}
-use Rattle.sheet_text.specs.declared.Reading.the-variants as read
-use Rattle.sheet_text.specs.declared.Listed.{Listed}
-use Rattle.sheet_text.specs.declared.Listed.the-variants as listed
-use Rattle.sheet_text.specs.Texts.{Lists, reading}
+use Rattle.ground.specs.declared.Answer.{Answer}
+use Rattle.ground.specs.declared.Answer.the-variants.{Placed}
+use Rattle.ground.specs.Answers.{refusal}
+use Rattle.text_reading.specs.declared.Reading.{Reading}
+use Rattle.text_reading.specs.declared.Reading.the-variants as read
+use Rattle.text_listing.specs.declared.Listed.{Listed}
+use Rattle.text_listing.specs.declared.Listed.the-variants as listed
+use Rattle.text_reading.specs.Texts.{Lists, reading}
 use Rattle.dirmoog_c.specs.Exported.{told}
 
 -- this paper's number for each case of a reading, and what is told of it: the counts of labels and gaps, or the place and 0

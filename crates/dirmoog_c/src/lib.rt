@@ -1,13 +1,14 @@
 // The library for C and Rust: thin functions over the proved entries, on numbers and slices only. Anything may be lent.
 use exact::round::round;
-use layout::Answer;
+use ground::Answer;
 use layout::lists::lay_out;
 ghost use mathlib.Core.Path.{_≡_};
 ghost use lib.ListN.{set};
 ghost use Rattle.exact.specs.Round as rounding;
-ghost use Rattle.layout.specs.Lent.{lists};
-ghost use Rattle.layout.specs.Promise.{numberOf, placedAt, ringLengthOf};
+ghost use Rattle.sheet_checks.specs.Lent.{roomLent, sheetLent};
+ghost use Rattle.ground.specs.Answers.{numberOf, placedAt, ringLengthOf};
 ghost use Rattle.dirmoog_c.specs.Exported.{Laid};
+ghost use Rattle.ground.specs.Views.{after, before};
 
 pub mod text;
 
@@ -43,7 +44,7 @@ fn ring_of(answer: Answer) -> usize
 
 // Writes a number to an entry of a list, if the list has it.
 pub(crate) fn put(out: &mut [usize], at: usize, x: usize)
-    ensures { λ _. ⌜ now (out .exit) ≡ set (now (out .entry)) at x ⌝ }
+    ensures { λ _. ⌜ after out ≡ set (before out) at x ⌝ }
 {
     if at < out.len() {
         out[at] = x;
@@ -52,7 +53,7 @@ pub(crate) fn put(out: &mut [usize], at: usize, x: usize)
 
 // Writes a signed number to an entry of a list, if the list has it.
 fn put_signed(out: &mut [i64], at: usize, x: i64)
-    ensures { λ _. ⌜ now (out .exit) ≡ set (now (out .entry)) at x ⌝ }
+    ensures { λ _. ⌜ after out ≡ set (before out) at x ⌝ }
 {
     if at < out.len() {
         out[at] = x;
@@ -75,7 +76,10 @@ pub extern "C" fn dirmoog_layout(
     ring: &mut [usize],
     out: &mut [usize],
 ) -> usize
-    ensures { λ r. ⌜ Laid (record { wanted = now (wanted .entry); weight = now (weight .entry); gaps = lists (now (left .entry)) (now (right .entry)) (now (distance .entry)) }) (record { «place-num» = now («place_num» .entry); «place-den» = now («place_den» .entry); «mult-num» = now («mult_num» .entry); «mult-den» = now («mult_den» .entry); ring = now (ring .entry); carried = now (carried .entry) }) (now (out .entry)) r (record { «place-num» = now («place_num» .exit); «place-den» = now («place_den» .exit); «mult-num» = now («mult_num» .exit); «mult-den» = now («mult_den» .exit); ring = now (ring .exit); carried = now (carried .exit) }) (now (out .exit)) ⌝ }
+    ensures { λ r.
+        let room = roomLent carried «place_num» «place_den» «mult_num» «mult_den» ring in
+        let sheet = sheetLent wanted weight left right distance in
+        ⌜ Laid sheet (room .entry) (before out) r (room .exit) (after out) ⌝ }
 {
     let answer = lay_out(
         wanted,
@@ -100,7 +104,7 @@ pub extern "C" fn dirmoog_layout(
 #[no_mangle]
 pub extern "C" fn dirmoog_round(num: i64, den: i64, out: &mut [i64]) -> usize
     ensures { λ r. ⌜ r ≡ rounding.numberOf (rounding.rounded num den) ⌝ }
-    ensures { λ _. ⌜ now (out .exit) ≡ set (now (out .entry)) 0 (rounding.wholeOf (rounding.rounded num den)) ⌝ }
+    ensures { λ _. ⌜ after out ≡ set (before out) 0 (rounding.wholeOf (rounding.rounded num den)) ⌝ }
 {
     let answer = round(num, den);
     put_signed(out, 0, answer.whole());

@@ -1,15 +1,17 @@
 // The sheet text and the listing for C and Rust.
 use crate::put;
-use exact::Refusal;
-use layout::Answer;
-use sheet_text::Listed;
-use sheet_text::Reading;
-use sheet_text::listing::write_listing;
-use sheet_text::read::read_sheet;
+use ground::Answer;
+use ground::Refusal;
+use text_listing::Listed;
+use text_listing::listing::write_listing;
+use text_reading::Reading;
+use text_reading::read::read_sheet;
 ghost use mathlib.Core.Path.{_≡_};
 ghost use lib.ListN.{set};
 ghost use Rattle.dirmoog_c.specs.Texted.{readNumber, readFirst, readSecond, ReadTold, listedNumber, listedBytes, answerOf};
-ghost use Rattle.sheet_text.specs.Listing.{listedIn};
+ghost use Rattle.text_listing.specs.Listing.{listedIn};
+ghost use Rattle.text_reading.specs.Texts.{listsLent};
+ghost use Rattle.ground.specs.Views.{after, before};
 
 // The number of a reading.
 fn read_number(reading: Reading) -> usize
@@ -52,7 +54,9 @@ pub extern "C" fn dirmoog_read(
     distance: &mut [i64],
     out: &mut [usize],
 ) -> usize
-    ensures { λ r. ⌜ ReadTold (now (text .entry)) (record { wanted = now (wanted .entry); weight = now (weight .entry); left = now (left .entry); right = now (right .entry); distance = now (distance .entry) }) (now (out .entry)) r (record { wanted = now (wanted .exit); weight = now (weight .exit); left = now (left .exit); right = now (right .exit); distance = now (distance .exit) }) (now (out .exit)) ⌝ }
+    ensures { λ r.
+        let l = listsLent wanted weight left right distance in
+        ⌜ ReadTold (before text) (l .entry) (before out) r (l .exit) (after out) ⌝ }
 {
     let reading = read_sheet(text, wanted, weight, left, right, distance);
     let number = read_number(reading);
@@ -105,9 +109,14 @@ pub extern "C" fn dirmoog_listing(
     text: &mut [u8],
     out: &mut [usize],
 ) -> usize
-    ensures { λ r. ⌜ r ≡ listedNumber (listedIn (answerOf number place) (now («place_num» .entry)) (now («place_den» .entry)) (now (text .entry)) .answer) ⌝ }
-    ensures { λ _. ⌜ now (text .exit) ≡ listedIn (answerOf number place) (now («place_num» .entry)) (now («place_den» .entry)) (now (text .entry)) .buffer ⌝ }
-    ensures { λ _. ⌜ now (out .exit) ≡ set (now (out .entry)) 0 (listedBytes (listedIn (answerOf number place) (now («place_num» .entry)) (now («place_den» .entry)) (now (text .entry)) .answer)) ⌝ }
+    ensures { λ r.
+        ⌜ r ≡ listedNumber (listedIn (answerOf number place) (before «place_num») (before «place_den») (before text) .answer)
+        ⌝ }
+    ensures { λ _.
+        ⌜ after text ≡ listedIn (answerOf number place) (before «place_num») (before «place_den») (before text) .buffer ⌝ }
+    ensures { λ _.
+        ⌜ after out ≡ set (before out) 0
+        (listedBytes (listedIn (answerOf number place) (before «place_num») (before «place_den») (before text) .answer)) ⌝ }
 {
     let answer = answer_of(number, place);
     let listed = write_listing(answer, place_num, place_den, text);

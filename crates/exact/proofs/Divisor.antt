@@ -1,23 +1,18 @@
 -- Divisors: Euclid's step, Gauss's lemma, and fractions in lowest terms, which are unique.
-use mathlib.Core.Path.{_≡_, refl, sym, _∙_, ap, subst}
+use mathlib.Core.Path.{_≡_, refl, sym, _∙_, ap}
 use mathlib.Core.Logic.{_⊎_, inl, inr}
-use mathlib.Core.Bool.{true, false}
 use mathlib.Core.List.{[], _∷_}
-use Prim.Native.Nat.{ℕ, zero, suc, _+_, _-_, _*_, _/_, _%_, _≤_, _<_, _^_, _∣_}
+use Prim.Native.Nat.{ℕ, zero, suc, _+_, _-_, _*_, _/_, _%_, _≤_, _<_, _∣_}
 use native.Mathlib.Omega.{arith}
-use native.Mathlib.Nat.{dvd-refl, dvd-zero, dvd-mul-left, dvd-mul-right, dvd-trans, dvd-mul-left-of-dvd, one-dvd, dvd-add-iff-left, dvd-add-iff-right, dvd-mod-iff, dvd-antisymm, pos-of-dvd-of-pos, le-of-dvd, mod-lt, mod-add-div', mul-dvd-mul-left, mul-dvd-mul-right, dvd-of-mul-dvd-mul-left, eq-one-of-dvd-one, mul-div-cancel', div-le-self}
-use lib.IntN.{ℤ, pos, negsuc, negℤ, natAbs, _-ℤ_, _*ℤ_, *ℤ-comm, *ℤ-zero, +ℤ-idl}
-use lib.Signed.{_<ℤ_, ltZ, nonNeg, mag, mag-rem, quotZ, remZ}
-use lib.Dec.{T}
-use borrow.Author.Tests.{ltb-true}
-use mir.Syntax.{Width, w64}
-use mir.Val.{SFits, toZ, ofZ}
-use mir.ValLaws.{sfits-le, toZ-ofZ}
+use native.Mathlib.Nat.{dvd-refl, dvd-zero, dvd-mul-left, dvd-mul-right, dvd-trans, dvd-mul-left-of-dvd, one-dvd, dvd-add-iff-left, dvd-add-iff-right, dvd-mod-iff, dvd-antisymm, pos-of-dvd-of-pos, le-of-dvd, mod-lt, mod-add-div', mul-dvd-mul-left, mul-dvd-mul-right, dvd-of-mul-dvd-mul-left, eq-one-of-dvd-one}
+use lib.IntN.{ℤ, pos, natAbs, _*ℤ_, *ℤ-comm, *ℤ-zero}
+use lib.Signed.{_<ℤ_, remZ}
 use Rattle.exact.specs.declared.Fraction.{Fraction}
 use Rattle.exact.specs.Fraction.{_≃_, LowestTerms, Reduced}
 use Rattle.exact.specs.Divide.{GreatestCommonDivisor, IsDivisor, noDivisor}
-use Rattle.exact.proofs.Whole.{pp-*, nn-*, pp-neg, nn-neg, parts-natAbs, by-parts, lt-parts, parts-lt, *ℤ-cancel, *ℤ-lt-cancel}
-use Rattle.exact.proofs.Ring.{ring, quotes}
+use Rattle.algebra.proofs.Whole.{parts-lt, *ℤ-cancel, *ℤ-lt-cancel}
+use Rattle.algebra.proofs.Ring.{ring, quotes}
+use Rattle.algebra.proofs.Quotient.{natAbs-*, natAbs-rem, pos-of-above, natAbs-above}
 
 -- ---- natural numbers
 
@@ -78,87 +73,7 @@ gauss a d m h p = rw one-times at (gcd-multiple (suc d) a d d m 1 (omega arith) 
     coprime : GreatestCommonDivisor a d 1
     coprime = record { left = one-dvd a; right = one-dvd d; greatest = λ k p q. rw (h k p q) (dvd-refl 1) }
 
--- ---- whole numbers
-
-pub natAbs-* : (a b : ℤ) → natAbs (a *ℤ b) ≡ natAbs a * natAbs b
-natAbs-* a b = rw (parts-natAbs (a *ℤ b), pp-*, nn-*, parts-natAbs a, parts-natAbs b) (omega arith)
-
-pub pos-of-above : {z : ℤ} → pos 0 <ℤ z → pos (natAbs z) ≡ z
-pos-of-above {z = pos n} h = refl
-pos-of-above {z = negsuc n} h = absurd (h .lt)
-
-pub natAbs-above : {z : ℤ} → pos 0 <ℤ z → 0 < natAbs z
-natAbs-above {z = pos n} h = omega (arith, lt-parts h)
-natAbs-above {z = negsuc n} h = omega arith
-
--- the remainder's magnitude
-pub natAbs-rem : (z d : ℤ) → natAbs (remZ z d) ≡ natAbs z % natAbs d
-natAbs-rem (pos a) d = refl
-natAbs-rem (negsuc a) d = rw (parts-natAbs (negℤ (pos (suc a % natAbs d))), pp-neg, nn-neg) (omega arith)
-
--- a quotient without remainder
-pub quot-exact : (z g : ℤ) → pos 0 <ℤ g → natAbs g ∣ natAbs z → g *ℤ quotZ z g ≡ z
-quot-exact (pos a) (pos g) h p = ap pos (mul-div-cancel' g p)
-quot-exact (negsuc a) (pos g) h p = by-parts _ _ (simp (pp-* (pos g), nn-* (pos g), pp-neg, nn-neg) (omega (arith, mul-div-cancel' g p)))
-quot-exact (pos a) (negsuc g) h p = absurd (h .lt)
-quot-exact (negsuc a) (negsuc g) h p = absurd (h .lt)
-
--- a quotient is no larger than what is divided
-mag-neg : (n m : ℕ) → n ≤ suc m → mag (negℤ (pos n)) ≤ m
-mag-neg zero m h = omega arith
-mag-neg (suc n) m h = omega arith
-
-mag-quot : (z d : ℤ) → pos 0 <ℤ d → mag (quotZ z d) ≤ mag z
-mag-quot (pos a) (pos d) h = div-le-self a d
-mag-quot (negsuc a) (pos d) h = mag-neg (suc a / d) a (div-le-self (suc a) d)
-mag-quot (pos a) (negsuc d) h = absurd (h .lt)
-mag-quot (negsuc a) (negsuc d) h = absurd (h .lt)
-
-ofZ-above : (w : Width) {d : ℤ} → pos 0 <ℤ d → 0 < ofZ w d
-ofZ-above w {d = pos n} h = omega (arith, lt-parts h)
-ofZ-above w {d = negsuc n} h = absurd (h .lt)
-
--- a number taken from zero
-pub natAbs-negated : (z : ℤ) → natAbs (pos 0 -ℤ z) ≡ natAbs z
-natAbs-negated z = rw (+ℤ-idl (negℤ z), parts-natAbs (negℤ z), pp-neg, nn-neg, parts-natAbs z) (omega arith)
-
-pub negated-nonneg : (z : ℤ) → ltZ z (pos 0) ≡ true → T (nonNeg (pos 0 -ℤ z))
-negated-nonneg (pos n) e = absurd (omega (arith, ltb-true n 0 e))
-negated-nonneg (negsuc n) e = tt
-
-pub nonneg : (z : ℤ) → ltZ z (pos 0) ≡ false → T (nonNeg z)
-nonneg (pos n) e = tt
-nonneg (negsuc n) e = subst T e tt
-
--- a magnitude that an i64 holds
-pub fits-of-natAbs : (z : ℤ) → natAbs z < 2 ^ 63 → SFits w64 z
-fits-of-natAbs (pos n) h = record { sfits = h }
-fits-of-natAbs (negsuc n) h = record { sfits = omega arith }
-
-pub natAbs-of-fits : (z : ℤ) → pos 0 <ℤ z → SFits w64 z → natAbs z < 2 ^ 63
-natAbs-of-fits (pos n) h f = f .sfits
-natAbs-of-fits (negsuc n) h f = absurd (h .lt)
-
--- numbers of the same bits are the same
-pub same-bits : {w : Width} {a b : ℤ} → SFits w a → SFits w b → ofZ w a ≡ ofZ w b → a ≡ b
-same-bits {w} {a} {b} fa fb e = sym (toZ-ofZ w a fa) ∙ ap (toZ w) e ∙ toZ-ofZ w b fb
-
--- the machine divides what it reads back from the bits of two numbers that fit: what that asks, and what it gives
-module _ {w : Width} {z d : ℤ} (fz : SFits w z) (fd : SFits w d) (h : pos 0 <ℤ d) where
-  quot-read : quotZ (toZ w (ofZ w z)) (toZ w (ofZ w d)) ≡ quotZ z d
-  quot-read = λ i. quotZ (toZ-ofZ w z fz i) (toZ-ofZ w d fd i)
-
-  rem-read : remZ (toZ w (ofZ w z)) (toZ w (ofZ w d)) ≡ remZ z d
-  rem-read = λ i. remZ (toZ-ofZ w z fz i) (toZ-ofZ w d fd i)
-
-  pub division-asks : (0 < ofZ w d) × SFits w (quotZ (toZ w (ofZ w z)) (toZ w (ofZ w d)))
-  division-asks = (ofZ-above w h, subst (SFits w) (sym quot-read) (sfits-le (mag-quot z d h) fz))
-
-  pub quot-gives : toZ w (ofZ w (quotZ (toZ w (ofZ w z)) (toZ w (ofZ w d)))) ≡ quotZ z d
-  quot-gives = toZ-ofZ w _ (division-asks .1) ∙ quot-read
-
-  pub rem-gives : toZ w (ofZ w (remZ (toZ w (ofZ w z)) (toZ w (ofZ w d)))) ≡ remZ z d
-  rem-gives = toZ-ofZ w _ (subst (SFits w) (sym rem-read) (sfits-le (mag-rem z d) fz)) ∙ rem-read
+-- ---- the divisor of a fraction
 
 -- what divides a number above zero is above zero, and no larger
 pub gcd-bounds : {a b g : ℕ} → 0 < a → GreatestCommonDivisor a b g → (0 < g) × (g ≤ a)

@@ -11,9 +11,10 @@ use lib.Dec.{ltb}
 use borrow.Author.Tests.{ltb-true, ltb-false}
 use Rattle.exact.specs.declared.Fraction.{Fraction}
 use Rattle.exact.specs.Fraction.{IsFraction, _≃_, _≼_, _≺_, _⊕_, _⊖_, _⊛_, whole, square}
-use Rattle.exact.specs.Sum.{sum, total}
-use Rattle.exact.proofs.Whole.{le-trans, le-antisym, le-of-eq, le-of-lt, not-le-of-lt, le-or-lt, *ℤ-assoc, *ℤ-le, *ℤ-le-cancel, *ℤ-cancel, *ℤ-above}
-use Rattle.exact.proofs.Ring.{quotes, ring, le-given, eq-given, le-goal, eq-goal}
+use Rattle.algebra.specs.Sum.{sum}
+use Rattle.exact.specs.Total.{total}
+use Rattle.algebra.proofs.Whole.{le-trans, le-antisym, le-of-eq, le-of-lt, not-le-of-lt, le-or-lt, *ℤ-assoc, *ℤ-le, *ℤ-le-cancel, *ℤ-cancel, *ℤ-above}
+use Rattle.algebra.proofs.Ring.{quotes, ring, le-given, eq-given, le-goal, eq-goal}
 
 -- ---- equality
 

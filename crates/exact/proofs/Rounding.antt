@@ -3,7 +3,7 @@ use mathlib.Core.Path.{_≡_, refl, sym, _∙_, ap, ap₂}
 use mathlib.Core.Logic.{_⊎_, inl, inr, ⊎-elim}
 use mathlib.Core.Bool.{Bool, true, false, cond, _&&_}
 use mathlib.Core.List.{List, [], _∷_}
-use Prim.Native.Nat.{ℕ, zero, suc, _+_, _*_, _-_, _/_, _%_, _≤_, _<_, _^_}
+use Prim.Native.Nat.{ℕ, suc, _+_, _*_, _-_, _/_, _%_, _≤_, _<_, _^_}
 use native.Mathlib.Omega.{arith}
 use native.Mathlib.Nat.{div-add-mod', mod-lt}
 use lib.Dec.{ltb, leb}
@@ -16,9 +16,10 @@ use Rattle.exact.specs.declared.Fraction.{Fraction}
 use Rattle.exact.specs.declared.Rounded.the-variants.{Whole, Refused}
 use Rattle.exact.specs.Divide.{InRange}
 use Rattle.exact.specs.Round.{nearestMagnitude, roundTiesToAway, withinPlaces, rounded}
-use Rattle.exact.proofs.Whole.{pp, nn, parts-+, pp-neg, nn-neg, le-parts, parts-le, lt-parts, parts-lt, one-part, parts-natAbs, negℤ-*ℤ, le-antisym, le-of-lt, not-le-of-lt, le-or-lt, *ℤ-le}
-use Rattle.exact.proofs.Ring.{quotes, le-given, le-goal}
-use Rattle.exact.proofs.Quotient.{natAbs-neg, natAbs-*, natAbs-+, above-natAbs, natAbs-rem, lt-of-test, le-of-test, leZ-of-test, test-of-leZ, next-le, kept, fits-as, kept-as, den-kept, quot-small, quot-kept, rem-small, rem-kept}
+use Rattle.algebra.proofs.Whole.{pp, nn, parts-+, pp-neg, nn-neg, le-parts, parts-le, lt-parts, parts-lt, one-part, parts-natAbs, negℤ-*ℤ, le-antisym, le-of-lt, not-le-of-lt, le-or-lt, *ℤ-le}
+use Rattle.algebra.proofs.Ring.{quotes, le-given, le-goal}
+use Rattle.algebra.proofs.Quotient.{natAbs-neg, natAbs-*, natAbs-+, above-natAbs, natAbs-rem, lt-of-test, le-of-test, leZ-of-test, test-of-leZ, next-le, kept, fits-as, kept-as}
+use Rattle.exact.proofs.Ordering.{den-kept, quot-small, quot-kept, rem-small, rem-kept}
 
 -- ---- examples
 

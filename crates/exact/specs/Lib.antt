@@ -1,4 +1,4 @@
 pub mod Fraction
-pub mod Sum
 pub mod Divide
 pub mod Round
+pub mod Total

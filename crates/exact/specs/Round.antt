@@ -1,10 +1,9 @@
 -- Whole units (document 01): the nearest whole number, halves away from zero, as IEEE 754's roundTiesToAway; and refusal 12.
 use Prim.Native.Nat.{ℕ, _+_, _*_, _/_, _%_}
-use mathlib.Core.Bool.{Bool, true, false, cond, _&&_}
+use mathlib.Core.Bool.{Bool, cond, _&&_}
 use lib.Dec.{ltb, leb}
 use lib.IntN.{ℤ, pos, negsuc, negℤ, natAbs}
 use lib.Signed.{leZ}
-use Rattle.exact.specs.declared.Refusal.{Refusal}
 use Rattle.exact.specs.declared.Rounded.{Rounded}
 use Rattle.exact.specs.declared.Rounded.the-variants.{Whole, Refused}
 

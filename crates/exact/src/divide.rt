@@ -2,10 +2,11 @@
 use crate::Fraction;
 use crate::known::Divisor;
 use crate::known::no_divisor;
+use ground::signs::magnitude;
 ghost use mathlib.Core.Path.{_≡_};
 ghost use mathlib.Core.Logic.{_⊎_};
-ghost use Prim.Native.Nat.{_<_, _≤_, _^_};
-ghost use lib.IntN.{pos, natAbs};
+ghost use Prim.Native.Nat.{_<_, _≤_};
+ghost use lib.IntN.{pos};
 ghost use lib.Signed.{_<ℤ_, quotZ, remZ};
 ghost use Rattle.exact.specs.Fraction.{Reduced};
 ghost use Rattle.exact.specs.Divide.{GreatestCommonDivisor, IsDivisor};
@@ -29,14 +30,6 @@ pub fn gcd(a: u64, b: u64) -> u64
         y = nearer(rest, y - rest);
     }
     x
-}
-
-// A number without its sign.
-fn magnitude(x: i64) -> u64
-    requires { ⌜ natAbs x < 2 ^ 63 ⌝ }
-    ensures { λ r. ⌜ r ≡ natAbs x ⌝ }
-{
-    if x < 0 { (0 - x) as u64 } else { x as u64 }
 }
 
 // The quotient toward zero.

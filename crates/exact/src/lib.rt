@@ -1,4 +1,6 @@
 // Exact fractions: lowest terms, comparison and rounding in whole numbers of 64 bits.
+use ground::Refusal;
+
 pub mod compare;
 pub mod divide;
 pub mod known;
@@ -8,13 +10,6 @@ pub mod round;
 pub struct Fraction {
     pub num: i64,
     pub den: i64,
-}
-
-// A refusal of document 01: its number, its place, and with 9 the ring's length (else 0). All answers share it.
-pub struct Refusal {
-    pub number: usize,
-    pub place: usize,
-    pub ring: usize,
 }
 
 // Where one fraction stands to another.

@@ -1,6 +1,6 @@
 // Rounding to whole units, with refusal 12.
-use crate::Refusal;
 use crate::Rounded;
+use ground::Refusal;
 ghost use mathlib.Core.Path.{_≡_};
 ghost use Rattle.exact.specs.Divide.{InRange};
 ghost use Rattle.exact.specs.Round.{roundTiesToAway, rounded, numberOf, placeOf, wholeOf};

@@ -6,21 +6,10 @@ use exact::compare::compare;
 use exact::divide::gcd;
 use exact::divide::lowest;
 use exact::round::round;
+use ground::signs::magnitude;
 ghost use mathlib.Core.Path.{_≡_};
 ghost use mathlib.Core.Bool.{true};
-ghost use lib.IntN.{natAbs};
 ghost use Rattle.exact.specs.Divide.{InRange};
-
-// A number without its sign.
-fn magnitude(x: i64) -> u64
-    ensures { λ r. ⌜ r ≡ natAbs x ⌝ }
-{
-    if x < 0 {
-        (0 - (x + 1)) as u64 + 1
-    } else {
-        x as u64
-    }
-}
 
 // Writes a number in decimal, with a minus sign where it is below zero.
 fn print_signed(x: i64) {

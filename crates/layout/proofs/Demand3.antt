@@ -8,20 +8,20 @@ use lib.IntN.{ℤ, pos, _-ℤ_, _*ℤ_}
 use lib.Signed.{_≤ℤ_}
 use Rattle.exact.specs.declared.Fraction.{Fraction}
 use Rattle.exact.specs.Fraction.{IsFraction, _≃_, whole}
-use Rattle.exact.proofs.Whole.{le-antisym}
-use Rattle.exact.proofs.Ring.{quotes, le-given, eq-given, le-goal}
+use Rattle.algebra.proofs.Whole.{le-antisym}
+use Rattle.algebra.proofs.Ring.{quotes, le-given, eq-given, le-goal}
 use Rattle.exact.proofs.Fractions.{whole-above}
 use Rattle.exact.proofs.Divisor.{lowest-unique}
-use Rattle.least_move.specs.declared.Label.{Label}
+use Rattle.ground.specs.declared.Label.{Label}
 use Rattle.least_move.specs.Sheet.{Sheet, Gap, at-least, label}
 use Rattle.least_move.specs.Placement.{Placement, Feasible}
 use Rattle.least_move.specs.Moved.{SameButWants, Within}
 use Rattle.least_move.proofs.Laws.{largest-move}
-use Rattle.layout.specs.declared.Answer.{Answer}
-use Rattle.layout.specs.declared.Answer.the-variants.{Placed}
-use Rattle.layout.specs.declared.GapRecord.{GapRecord}
-use Rattle.layout.specs.Lent.{Read, Written, labelCount, sheetOf, placeOf}
-use Rattle.layout.specs.Refusals.{pass, table}
+use Rattle.ground.specs.declared.Answer.{Answer}
+use Rattle.ground.specs.declared.Answer.the-variants.{Placed}
+use Rattle.ground.specs.declared.GapRecord.{GapRecord}
+use Rattle.sheet_checks.specs.Lent.{Read, Written, labelCount, sheetOf, placeOf}
+use Rattle.sheet_checks.specs.Refusals.{pass, table}
 use Rattle.layout.specs.Promise.{Promise, Accepted}
 use Rattle.layout.specs.Demand3.{SameSheets, Demand3, wantOf}
 use Rattle.layout.proofs.Facts.{placed-exactly, accepted-exactly, placed-accepted, placed-least, placed-proper}

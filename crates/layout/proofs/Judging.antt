@@ -11,28 +11,29 @@ use lib.Seq.{length-take-le, getD-take}
 use lib.IntN.{ℤ, pos, negsuc, natAbs}
 use lib.Signed.{_≤ℤ_}
 use borrow.Author.Tests.{ltb-false, eqb-true, not-false}
-use Rattle.exact.proofs.Whole.{parts-le}
+use Rattle.algebra.proofs.Whole.{parts-le}
 use Rattle.least_move.specs.Sheet.{Proper, gapNumber, label}
 use Rattle.least_move.specs.Placement.{Placement, Feasible}
 use Rattle.least_move.specs.Multipliers.{Conditions}
 use Rattle.least_move.specs.Marks.{Step, Each}
 use Rattle.least_move.specs.Ring.{Ring, Passable}
 use Rattle.least_move.proofs.Laws.{least-of-conditions, ring-excludes}
-use Rattle.forest.specs.Tree.{nat, int}
-use Rattle.step.specs.Problem.{Problem, Limits, kindOf}
-use Rattle.circuit.specs.Way.{sheetFrom, stepsOf, IsRing}
-use Rattle.projection.specs.Project.{Buffers, Ready, Solved, problemOf}
-use Rattle.projection.specs.Project as core
-use Rattle.projection.specs.declared.Projected.{Projected}
-use Rattle.projection.specs.declared.Projected.the-variants as Found
-use Rattle.projection.proofs.Agreeing.{Agree, conditions-agree, marks-agree, is-ring-agree}
-use Rattle.layout.specs.declared.Answer.{Answer}
-use Rattle.layout.specs.declared.Answer.the-variants.{Placed}
-use Rattle.layout.specs.Lent.{Read, Written, lists, sheetOf, placeOf, multiplierOf}
-use Rattle.layout.specs.Refusals.{refuse, pass, outside, unequal, table}
-use Rattle.layout.specs.Checks.{answerOf}
-use Rattle.layout.specs.Promise.{Promise, ByTable, Judged, Accepted, Filled, RingGiven, forwards, refusal}
-use Rattle.layout.proofs.Facts.{Passed, table-passed, or-clear, ends-in, passed-proper}
+use Rattle.ground.specs.Entries.{nat, int, Filled}
+use Rattle.core_forest.specs.Problem.{Problem, Limits, kindOf, sheetFrom}
+use Rattle.core_ring.specs.Way.{stepsOf, IsRing}
+use Rattle.core_project.specs.Project.{Buffers, Ready, Solved, problemOf}
+use Rattle.core_project.specs.Project as core
+use Rattle.core_project.specs.declared.Projected.{Projected}
+use Rattle.core_project.specs.declared.Projected.the-variants as Found
+use Rattle.core_project.proofs.Agreeing.{Agree, conditions-agree, marks-agree, is-ring-agree}
+use Rattle.ground.specs.declared.Answer.{Answer}
+use Rattle.ground.specs.declared.Answer.the-variants.{Placed}
+use Rattle.sheet_checks.specs.Lent.{Read, Written, lists, sheetOf, placeOf, multiplierOf}
+use Rattle.sheet_checks.specs.Refusals.{refuse, pass, outside, unequal, table}
+use Rattle.layout.specs.Answered.{answerOf}
+use Rattle.layout.specs.Promise.{Promise, ByTable, Judged, Accepted, RingGiven, forwards}
+use Rattle.ground.specs.Answers.{refusal}
+use Rattle.sheet_checks.proofs.Passed.{Passed, table-passed, or-clear, ends-in, passed-proper}
 
 -- ---- tests of one number
 
@@ -79,9 +80,6 @@ kinds-length left h = length-take-le (length left) (replicate 192 0) h
 
 kinds-zero : (left : List ℕ) → length left ≤ 192 → (k : ℕ) → k < length left → nat (kindsOf left) k ≡ 0
 kinds-zero left h k l = getD-take (length left) (replicate 192 0) k 0 l ∙ getD-replicate 192 k 0 0 (omega arith)
-
-refilled : {A : Type 0} {n : ℕ} {before after : List A} → core.Filled n before after → Filled n before after
-refilled f = record { size = f .size; beyond = f .beyond }
 
 -- ---- a sheet that the table lets pass
 module _ (wanted weight : List ℤ) (left right : List ℕ) (distance : List ℤ) (w : Written) (passes : table (readOf wanted weight left right distance) w ≡ pass) where
@@ -152,10 +150,10 @@ module _ (wanted weight : List ℤ) (left right : List ℕ) (distance : List ℤ
   unfolding sheetOf
   accepted {back} {after} s =
       record {
-        place-nums = refilled (s .place-nums);
-        place-dens = refilled (s .place-dens);
-        mult-nums = refilled (s .mult-nums);
-        mult-dens = refilled (s .mult-dens);
+        place-nums = s .place-nums;
+        place-dens = s .place-dens;
+        mult-nums = s .mult-nums;
+        mult-dens = s .mult-dens;
         ring = s .ring;
         carried = s .carried;
         least = least-of-conditions (sheetOf sheet) (placeOf (writtenOf after)) (multiplierOf (writtenOf after)) proper conditions;
@@ -209,7 +207,7 @@ module _ (wanted weight : List ℤ) (left right : List ℕ) (distance : List ℤ
           front = e;
           counted = sym front ∙ ap length e;
           ring = r;
-          rest = refilled (g .rings);
+          rest = g .rings;
           stays = ap writtenOf (g .stays);
         },
       )

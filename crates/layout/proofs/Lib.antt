@@ -1,5 +1,4 @@
 pub mod Facts
 pub mod Demand3
 pub mod WrongParts
-pub mod CheckLaws
 pub mod Judging

@@ -8,24 +8,27 @@ use lib.Dec.{lit<}
 use lib.ListN.{length, getD, replicate, length-map, List·getD-map}
 use lib.IntN.{ℤ, pos, negsuc, natAbs}
 use Rattle.exact.specs.declared.Fraction.{Fraction}
-use Rattle.exact.specs.declared.Refusal.{Refusal}
+use Rattle.ground.specs.declared.Refusal.{Refusal}
 use Rattle.exact.specs.Fraction.{_≃_, _≼_, _⊕_, _⊖_, _⊛_, whole}
-use Rattle.exact.specs.Sum.{total}
+use Rattle.exact.specs.Total.{total}
 use Rattle.exact.proofs.Fractions.{whole-above}
-use Rattle.least_move.specs.declared.Label.{Label}
-use Rattle.least_move.specs.declared.GapNumber.{GapNumber}
+use Rattle.ground.specs.declared.Label.{Label}
+use Rattle.ground.specs.declared.GapNumber.{GapNumber}
 use Rattle.least_move.specs.Sheet.{Sheet, at-least, label, gapNumber}
 use Rattle.least_move.specs.Placement.{Placement, Holds, Tight, move}
 use Rattle.least_move.specs.Multipliers.{asRight, asLeft, Conditions}
 use Rattle.least_move.specs.Ring.{Ring}
 use Rattle.least_move.proofs.Laws.{ring-excludes}
-use Rattle.layout.specs.declared.Answer.{Answer}
-use Rattle.layout.specs.declared.Answer.the-variants.{Placed, Refused}
-use Rattle.layout.specs.declared.GapRecord.{GapRecord}
-use Rattle.layout.specs.Lent.{LentGaps, lists, records, Read, Written, labelCount, noRecord, sheetOf, placeOf}
-use Rattle.layout.specs.Refusals.{pass, offender, table}
-use Rattle.layout.specs.Promise.{Promise, ringLengthOf, refusal, forwards}
-use Rattle.layout.proofs.Facts.{judged, places-known, passed-proper, not-both, whole-lowest}
+use Rattle.ground.specs.declared.Answer.{Answer}
+use Rattle.ground.specs.declared.Answer.the-variants.{Placed, Refused}
+use Rattle.ground.specs.declared.GapRecord.{GapRecord}
+use Rattle.sheet_checks.specs.Lent.{LentGaps, lists, records, Read, Written, labelCount, sheetOf, placeOf}
+use Rattle.ground.specs.Entries.{noRecord}
+use Rattle.sheet_checks.specs.Refusals.{pass, offender, table}
+use Rattle.layout.specs.Promise.{Promise, forwards}
+use Rattle.ground.specs.Answers.{ringLengthOf, refusal}
+use Rattle.layout.proofs.Facts.{judged, places-known, not-both, whole-lowest}
+use Rattle.sheet_checks.proofs.Passed.{passed-proper}
 
 -- ---- sheets of the bench, lent in either form
 

@@ -6,13 +6,13 @@ use lib.ListN.{getD}
 use lib.IntN.{ℤ, pos}
 use Rattle.exact.specs.declared.Fraction.{Fraction}
 use Rattle.exact.specs.Fraction.{IsFraction, _≼_, whole}
-use Rattle.least_move.specs.declared.Label.{Label}
+use Rattle.ground.specs.declared.Label.{Label}
 use Rattle.least_move.specs.Placement.{Placement, Feasible, LeastMove}
 use Rattle.least_move.specs.Moved.{Within}
-use Rattle.layout.specs.declared.Answer.{Answer}
-use Rattle.layout.specs.declared.Answer.the-variants.{Placed}
-use Rattle.layout.specs.Lent.{Read, Written, labelCount, gapCount, recordAt, sheetOf, placeOf}
-use Rattle.layout.specs.Refusals.{pass, table}
+use Rattle.ground.specs.declared.Answer.{Answer}
+use Rattle.ground.specs.declared.Answer.the-variants.{Placed}
+use Rattle.sheet_checks.specs.Lent.{Read, Written, labelCount, gapCount, recordAt, sheetOf, placeOf}
+use Rattle.sheet_checks.specs.Refusals.{pass, table}
 
 -- "Two sheets have the same weights and gaps if they have as many labels and as many gaps and agree, number by number, in weight, left, right and distance"
 pub record SameSheets (r r′ : Read) : Type 0 where

@@ -2,46 +2,25 @@
 use Prim.Native.Nat.{ℕ, suc, _*_, _≤_, _<_}
 use mathlib.Core.Path.{_≡_}
 use mathlib.Core.Logic.{_⊎_}
-use mathlib.Core.Bool.{Bool, true, false}
+use mathlib.Core.Bool.{Bool, false}
 use mathlib.Core.List.{List, [], _∷_, map}
 use lib.Dec.{eqb}
-use lib.ListN.{length, getD, take, drop}
+use lib.ListN.{length, getD, take}
 use lib.IntN.{natAbs}
 use Rattle.exact.specs.Fraction.{LowestTerms}
-use Rattle.exact.specs.declared.Refusal.{Refusal}
-use Rattle.layout.specs.declared.Answer.{Answer}
-use Rattle.layout.specs.declared.Answer.the-variants.{Placed, Refused}
-use Rattle.least_move.specs.declared.Label.{Label}
-use Rattle.least_move.specs.declared.GapNumber.{GapNumber}
-use Rattle.least_move.specs.Sheet.{Sheet, gapNumber}
+use Rattle.ground.specs.declared.Answer.{Answer}
+use Rattle.ground.specs.declared.Answer.the-variants.{Placed}
+use Rattle.ground.specs.declared.Label.{Label}
+use Rattle.ground.specs.declared.GapNumber.{GapNumber}
+use Rattle.least_move.specs.Sheet.{gapNumber}
 use Rattle.least_move.specs.Placement.{Placement, Feasible, LeastMove}
 use Rattle.least_move.specs.Multipliers.{Conditions}
 use Rattle.least_move.specs.Marks.{Marks, Step}
 use Rattle.least_move.specs.Ring.{Ring}
-use Rattle.layout.specs.Lent.{Read, Written, labelCount, gapCount, sheetOf, placeOf, multiplierOf}
-use Rattle.layout.specs.Refusals.{Verdict, refuse, pass, table}
-
--- this paper's number and values for each case of an answer: 0 for placed
-abbrev pub numberOf : Answer → ℕ
-numberOf Placed = 0
-numberOf (Refused r) = r .number
-
-abbrev pub placedAt : Answer → ℕ
-placedAt Placed = 0
-placedAt (Refused r) = r .place
-
-abbrev pub ringLengthOf : Answer → ℕ
-ringLengthOf Placed = 0
-ringLengthOf (Refused r) = r .ring
-
--- the refusal of a number at a place, with a ring's length
-abbrev pub refusal : ℕ → ℕ → ℕ → Answer
-refusal number place ring = Refused (record { number = number; place = place; ring = ring })
-
--- a list whose first n entries were written: "Entries beyond stay"
-pub record Filled {A : Type 0} (n : ℕ) (before after : List A) : Type 0 where
-  pub size : length after ≡ length before
-  pub beyond : drop n after ≡ drop n before
+use Rattle.sheet_checks.specs.Lent.{Read, Written, labelCount, gapCount, sheetOf, placeOf, multiplierOf}
+use Rattle.sheet_checks.specs.Refusals.{Verdict, refuse, pass, table}
+use Rattle.ground.specs.Entries.{Filled}
+use Rattle.ground.specs.Answers.{ringLengthOf, refusal}
 
 -- the carried byte of a gap: "1 for marked gaps, else 0"
 abbrev pub byteAt : Written → GapNumber → ℕ

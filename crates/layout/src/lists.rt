@@ -1,16 +1,19 @@
 // Lays out a sheet whose gaps are lent as three lists.
-use crate::Answer;
-use crate::Checked;
-use crate::check::Room;
-use crate::check::check;
-use exact::Refusal;
-use projection::Projected;
-use projection::project::project;
-ghost use Rattle.layout.specs.Lent.{lists};
+use core_project::Projected;
+use core_project::project::project;
+use ground::Answer;
+use ground::Refusal;
+use ground::limits::GAPS;
+use ground::limits::LABELS;
+use sheet_checks::Checked;
+use sheet_checks::check::Room;
+use sheet_checks::check::check;
+ghost use Rattle.sheet_checks.specs.Lent.{roomLent, roomNow, sheetLent, sheetNow};
 ghost use mathlib.Core.Path.{_≡_};
-ghost use Rattle.layout.specs.Promise.{Promise, Judged, refusal};
-ghost use Rattle.layout.specs.Checks.{answerOf};
-ghost use Rattle.layout.specs.Refusals.{table, pass};
+ghost use Rattle.layout.specs.Promise.{Promise, Judged};
+ghost use Rattle.ground.specs.Answers.{refusal};
+ghost use Rattle.layout.specs.Answered.{answerOf};
+ghost use Rattle.sheet_checks.specs.Refusals.{table, pass};
 
 // A refusal.
 fn refused(number: usize, place: usize, ring: usize) -> Answer
@@ -52,11 +55,16 @@ fn place(
     mult_den: &mut [i64],
     ring: &mut [usize],
 ) -> Answer
-    requires { ⌜ table (record { wanted = now wanted; weight = now weight; gaps = lists (now left) (now right) (now distance) }) (record { «place-num» = now «place_num»; «place-den» = now «place_den»; «mult-num» = now «mult_num»; «mult-den» = now «mult_den»; ring = now ring; carried = now carried }) ≡ pass ⌝ }
-    ensures { λ r. ⌜ Judged (record { wanted = now (wanted .entry); weight = now (weight .entry); gaps = lists (now (left .entry)) (now (right .entry)) (now (distance .entry)) }) (record { «place-num» = now («place_num» .entry); «place-den» = now («place_den» .entry); «mult-num» = now («mult_num» .entry); «mult-den» = now («mult_den» .entry); ring = now (ring .entry); carried = now (carried .entry) }) r (record { «place-num» = now («place_num» .exit); «place-den» = now («place_den» .exit); «mult-num» = now («mult_num» .exit); «mult-den» = now («mult_den» .exit); ring = now (ring .exit); carried = now (carried .exit) }) ⌝ }
+    requires { let room = roomNow carried «place_num» «place_den» «mult_num» «mult_den» ring in
+        let sheet = sheetNow wanted weight left right distance in
+        ⌜ table sheet room ≡ pass ⌝ }
+    ensures { λ r.
+        let room = roomLent carried «place_num» «place_den» «mult_num» «mult_den» ring in
+        let sheet = sheetLent wanted weight left right distance in
+        ⌜ Judged sheet (room .entry) r (room .exit) ⌝ }
 {
-    let kinds = [0u8; 192];
-    let mut back = [0u8; 48];
+    let kinds = [0u8; GAPS];
+    let mut back = [0u8; LABELS];
     let gaps = left.len();
     let found = project(
         wanted,
@@ -90,7 +98,10 @@ pub fn lay_out(
     mult_den: &mut [i64],
     ring: &mut [usize],
 ) -> Answer
-    ensures { λ r. ⌜ Promise (record { wanted = now (wanted .entry); weight = now (weight .entry); gaps = lists (now (left .entry)) (now (right .entry)) (now (distance .entry)) }) (record { «place-num» = now («place_num» .entry); «place-den» = now («place_den» .entry); «mult-num» = now («mult_num» .entry); «mult-den» = now («mult_den» .entry); ring = now (ring .entry); carried = now (carried .entry) }) r (record { «place-num» = now («place_num» .exit); «place-den» = now («place_den» .exit); «mult-num» = now («mult_num» .exit); «mult-den» = now («mult_den» .exit); ring = now (ring .exit); carried = now (carried .exit) }) ⌝ }
+    ensures { λ r.
+        let room = roomLent carried «place_num» «place_den» «mult_num» «mult_den» ring in
+        let sheet = sheetLent wanted weight left right distance in
+        ⌜ Promise sheet (room .entry) r (room .exit) ⌝ }
 {
     let room = Room {
         places: place_num.len(),

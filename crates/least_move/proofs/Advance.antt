@@ -1,21 +1,19 @@
 -- One advance of an outer step: the push on a gap grows until a marked gap's multiplier comes to zero, or until the gap is tight.
 -- A drift says how places and loads change with the push. All numbers are whole: a state is scaled by k before it moves.
 use mathlib.Core.Path.{_≡_, refl, sym, _∙_, ap, ap₂}
-use mathlib.Core.Logic.{_⊎_, inl, inr, ⊎-elim}
-use mathlib.Core.Bool.{Bool, true, false}
+use mathlib.Core.Logic.{⊎-elim}
+use mathlib.Core.Bool.{Bool, true}
 use mathlib.Core.List.{List, [], _∷_}
 use Prim.Native.Nat.{ℕ, _<_}
 use native.Mathlib.Omega.{arith}
 use lib.IntN.{ℤ, pos, _+ℤ_, _-ℤ_, _*ℤ_}
 use lib.Signed.{_≤ℤ_, _<ℤ_}
 use lib.Dec.{eqb}
-use Rattle.exact.specs.Sum.{sum}
-use Rattle.exact.proofs.Whole.{le-trans, le-of-eq, le-of-lt, le-or-lt, *ℤ-nonneg, *ℤ-above, *ℤ-le, *ℤ-le-cancel, *ℤ-cancel, +ℤ-le}
-use Rattle.exact.proofs.Ring.{ring, quotes, le-given, lt-given, eq-given, le-goal, lt-goal, eq-goal, le-by}
-use Rattle.exact.proofs.Sum.{ind}
-use Rattle.least_move.proofs.Flow.{flow, flow-lin}
-use Rattle.least_move.proofs.Forest.{OnlyOn}
-use Rattle.least_move.proofs.Progress.{push, State, viol}
+use Rattle.algebra.specs.Sum.{ind}
+use Rattle.algebra.proofs.Whole.{le-trans, le-of-eq, le-of-lt, le-or-lt, *ℤ-nonneg, *ℤ-le-cancel, *ℤ-cancel, +ℤ-le}
+use Rattle.algebra.proofs.Ring.{ring, quotes, le-given, le-goal, le-by}
+use Rattle.least_move.specs.States.{flow, OnlyOn, push, State}
+use Rattle.least_move.proofs.Flow.{flow-lin}
 
 pub record Drift (n m : ℕ) (u v : ℕ → ℕ) (w : ℕ → ℤ) (F : ℕ → Bool) (a b : ℕ) (ds : ℤ) (dX dΛ : ℕ → ℤ) : Type 0 where
   pub off : OnlyOn m F dΛ

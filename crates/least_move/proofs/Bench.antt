@@ -12,12 +12,12 @@ use lib.IntN.{ℤ, pos, natAbs}
 use lib.Signed.{_≤ℤ_, _<ℤ_, leZ, ltZ}
 use Rattle.exact.specs.declared.Fraction.{Fraction}
 use Rattle.exact.specs.Fraction.{LowestTerms}
-use Rattle.exact.specs.Sum.{total}
-use Rattle.exact.proofs.Whole.{le-antisym, lt-parts, parts-natAbs}
-use Rattle.least_move.specs.declared.Label.{Label}
-use Rattle.least_move.specs.declared.GapNumber.{GapNumber}
+use Rattle.exact.specs.Total.{total}
+use Rattle.algebra.proofs.Whole.{le-antisym, lt-parts, parts-natAbs}
+use Rattle.ground.specs.declared.Label.{Label}
+use Rattle.ground.specs.declared.GapNumber.{GapNumber}
 use Rattle.least_move.specs.Sheet.{Sheet, Kind, at-least, exactly, ignored, Proper, label, gapNumber}
-use Rattle.least_move.specs.Placement.{Placement, Asks, Feasible, LeastMove, reach}
+use Rattle.least_move.specs.Placement.{Placement, Asks, Feasible, reach}
 use Rattle.least_move.specs.Multipliers.{Multipliers, Lawful, Conditions}
 use Rattle.least_move.specs.Marks.{Step, start, finish, Leads, Each}
 use Rattle.least_move.specs.Ring.{Ring, Passable, OnceLeft}

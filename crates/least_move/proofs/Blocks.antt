@@ -7,13 +7,14 @@ use Prim.Native.Nat.{ℕ, _<_}
 use lib.IntN.{ℤ, pos, _+ℤ_, _-ℤ_, _*ℤ_, *ℤ-zero}
 use lib.Dec.{eqb}
 use borrow.Author.Tests.{eqb-true, eqb-false, ne-eqb}
-use Rattle.exact.specs.Sum.{sum}
-use Rattle.exact.proofs.Whole.{one-*ℤ}
-use Rattle.exact.proofs.Ring.{ring, quotes}
-use Rattle.exact.proofs.Sum.{ind, sum-cong, sum-*}
-use Rattle.least_move.proofs.Flow.{flow, flow-lin}
-use Rattle.least_move.proofs.Forest.{OnlyOn, by-mark, pass-flow}
-use Rattle.least_move.proofs.Progress.{push, State, with-push}
+use Rattle.algebra.specs.Sum.{sum, ind}
+use Rattle.algebra.proofs.Whole.{one-*ℤ}
+use Rattle.algebra.proofs.Ring.{ring, quotes}
+use Rattle.algebra.proofs.Sum.{sum-cong, sum-*}
+use Rattle.least_move.specs.States.{flow, OnlyOn, push, State}
+use Rattle.least_move.proofs.Flow.{flow-lin}
+use Rattle.least_move.proofs.Forest.{by-mark, pass-flow}
+use Rattle.least_move.proofs.Progress.{with-push}
 
 -- at label j alone, a set's indicator is that of j
 pub pick : (S : ℕ → Bool) (j i : ℕ) (x y : ℤ) → x ≡ ind (S j) *ℤ y → ind (eqb j i) *ℤ x ≡ ind (S i) *ℤ (ind (eqb j i) *ℤ y)

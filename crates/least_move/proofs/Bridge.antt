@@ -10,18 +10,19 @@ use lib.Signed.{_≤ℤ_, _<ℤ_}
 use lib.Dec.{eqb}
 use Rattle.exact.specs.declared.Fraction.{Fraction}
 use Rattle.exact.specs.Fraction.{IsFraction, _≃_, _≼_, _⊖_, _⊛_, whole, square}
-use Rattle.exact.specs.Sum.{sum, total}
-use Rattle.exact.proofs.Whole.{le-antisym, le-of-eq, not-le-of-lt, le-or-lt, one-*ℤ}
-use Rattle.exact.proofs.Ring.{ring, quotes, le-given, eq-given, le-goal, eq-goal}
-use Rattle.exact.proofs.Sum.{ind, sum-cong}
+use Rattle.algebra.specs.Sum.{sum, ind}
+use Rattle.exact.specs.Total.{total}
+use Rattle.algebra.proofs.Whole.{le-antisym, le-of-eq, not-le-of-lt, le-or-lt, one-*ℤ}
+use Rattle.algebra.proofs.Ring.{ring, quotes, le-given, eq-given, le-goal, eq-goal}
+use Rattle.algebra.proofs.Sum.{sum-cong}
 use Rattle.exact.proofs.Fractions.{AtScale, ≼-scale, ≃-scale, ⊕-scale, ⊖-scale, ⊛-scale, whole-scale, square-scale, total-scale, total-above, whole-above, ⊕-above, ⊖-above, square-above}
-use Rattle.least_move.specs.declared.Label.{Label}
-use Rattle.least_move.specs.declared.GapNumber.{GapNumber}
+use Rattle.ground.specs.declared.Label.{Label}
+use Rattle.ground.specs.declared.GapNumber.{GapNumber}
 use Rattle.least_move.specs.Sheet.{Sheet, Gap, Kind, at-least, exactly, ignored, Proper, label, gapNumber}
 use Rattle.least_move.specs.Placement.{Placement, Asks, reach, Holds, Tight, Feasible, move, cost}
 use Rattle.least_move.specs.Multipliers.{Multipliers, Lawful, counted, asRight, asLeft, Conditions}
 use Rattle.least_move.specs.Moved.{SameButWants}
-use Rattle.least_move.proofs.Flow.{flow}
+use Rattle.least_move.specs.States.{flow}
 use Rattle.least_move.proofs.Scaled.{slack, Meets-at, Lawful-at, ScaledConditions, costZ}
 
 -- ---- a sheet as plain functions of numbers

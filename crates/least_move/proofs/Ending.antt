@@ -9,18 +9,14 @@ use native.Mathlib.Nat.{mul-comm, mul-assoc, mul-le-mul-left, mul-le-mul-right, 
 use native.Mathlib.Decide.{decLe}
 use lib.IntN.{ℤ, pos, negsuc, negℤ, natAbs, _-ℤ_, _*ℤ_, *ℤ-comm, pos-*ℤ-pos}
 use lib.Signed.{_≤ℤ_, _<ℤ_}
-use Rattle.exact.proofs.Whole.{pp-neg, nn-neg, parts-natAbs, le-parts, lt-parts, parts-lt, no-nn, le-of-lt, *ℤ-above, *ℤ-lt, *ℤ-lt-cancel, *ℤ-cancel}
-use Rattle.exact.proofs.Ring.{ring, quotes}
-use Rattle.exact.proofs.Sum.{natAbs-+}
+use Rattle.algebra.proofs.Whole.{pp-neg, nn-neg, parts-natAbs, le-parts, lt-parts, parts-lt, no-nn, le-of-lt, *ℤ-above, *ℤ-lt, *ℤ-lt-cancel, *ℤ-cancel}
+use Rattle.algebra.proofs.Ring.{ring, quotes}
+use Rattle.algebra.proofs.Sum.{natAbs-+}
 use Rattle.least_move.proofs.Progress.{natAbs-*, cost-nonneg, cost-bound}
-use Rattle.least_move.proofs.Sides.{Numbers, costAt, scaled-cost, PlacedAt, Reached}
+use Rattle.least_move.specs.States.{Numbers, costAt, PlacedAt, Reached, fact, K, atK, costK, far, limit, measure}
+use Rattle.least_move.proofs.Sides.{scaled-cost}
 
 -- ---- one scale for every place
-
--- the factorial
-fact : ℕ → ℕ
-fact zero = 1
-fact (suc n) = suc n * fact n
 
 fact-above : (n : ℕ) → 0 < fact n
 unfolding fact
@@ -37,10 +33,6 @@ fact-divides (suc n) w h l = go (decLe w n) (fact-divides n w h)
     go (no k) below =
         let e : w ≡ suc n = omega arith in
         (fact n, ap (λ (x : ℕ). fact n * x) e ∙ mul-comm (fact n) (suc n))
-
--- divided by every weight that a block can have: at most 48 labels of 3,600 each
-pub K : ℕ
-K = fact 172800
 
 pub K-above : 0 < K
 unfolding K
@@ -62,10 +54,6 @@ pub record DensIn (n : ℕ) (den : ℕ → ℤ) : Type 0 where
   pub above : (i : ℕ) → i < n → pos 0 <ℤ den i
   pub most : (i : ℕ) → i < n → den i ≤ℤ pos 172800
 
--- the place num / den at the scale K
-pub atK : (num den : ℤ) → ℤ
-atK num den = num *ℤ pos (K / natAbs den)
-
 den-pos : (den : ℤ) → pos 0 <ℤ den → den ≡ pos (natAbs den)
 den-pos (pos d) h = refl
 den-pos (negsuc d) h = absurd (h .lt)
@@ -86,10 +74,6 @@ atK-says num den h l =
     ap (λ x. num *ℤ pos (K / d) *ℤ x) (den-pos den h)
     ∙ turned num (pos (K / d)) (pos d)
     ∙ ap (λ x. x *ℤ num) (pos-*ℤ-pos (K / d) d ∙ ap pos (K-over d (den-above den h) (den-most den h l)))
-
--- the cost of the places at the square of the scale K
-pub costK : (z : Numbers) (num den : ℕ → ℤ) → ℤ
-costK z num den = costAt z (pos K) (λ i. atK (num i) (den i))
 
 -- two numbers of one fraction, at two scales
 same-place : (N x k y num den : ℤ) → pos 0 <ℤ den → x *ℤ den ≡ N *ℤ num → y *ℤ den ≡ k *ℤ num → k *ℤ x ≡ N *ℤ y
@@ -132,13 +116,6 @@ pub record PlacesIn (n : ℕ) (num den : ℕ → ℤ) : Type 0 where
   pub dens : DensIn n den
   pub near : (i : ℕ) → i < n → natAbs (num i) ≤ 1540000 * natAbs (den i)
 
--- how far a label moves at most, at the scale K, and the cost of 48 such moves
-far : ℕ
-far = 2140000 * K
-
-pub limit : ℕ
-limit = 48 * (3600 * (far * far))
-
 natAbs-- : (a b : ℤ) → natAbs (a -ℤ b) ≤ natAbs a + natAbs b
 natAbs-- a b = omega (arith, natAbs-+ a (negℤ b), parts-natAbs b, parts-natAbs (negℤ b), pp-neg b, nn-neg b)
 
@@ -170,9 +147,6 @@ costK-bounded z num den small places =
     (mul-le-mul-right (3600 * (far * far)) (small .labels))
 
 -- ---- the measure of the outer loop
-
-pub measure : (z : Numbers) (num den : ℕ → ℤ) → ℕ
-measure z num den = limit - natAbs (costK z num den)
 
 less : (a b : ℤ) (top : ℕ) → pos 0 ≤ℤ a → a <ℤ b → natAbs b ≤ top → top - natAbs b < top - natAbs a
 less a b top h k l = omega (arith, le-parts h, lt-parts k, parts-natAbs a, parts-natAbs b, no-nn h)

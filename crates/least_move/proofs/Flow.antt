@@ -3,18 +3,15 @@
 use mathlib.Core.Path.{_≡_, refl, sym, _∙_, ap, ap₂}
 use mathlib.Core.Logic.{_⊎_, inl, inr}
 use mathlib.Core.Bool.{Bool, true, false}
-use mathlib.Core.List.{List, [], _∷_}
+use mathlib.Core.List.{[], _∷_}
 use Prim.Native.Nat.{ℕ, _<_}
-use lib.IntN.{ℤ, pos, negℤ, _+ℤ_, _-ℤ_, _*ℤ_, *ℤ-zero, zero-*ℤ}
+use lib.IntN.{ℤ, pos, _+ℤ_, _-ℤ_, _*ℤ_, *ℤ-zero, zero-*ℤ}
 use lib.Dec.{eqb}
 use borrow.Author.Tests.{eqb-true, ne-eqb, eq-eqb}
-use Rattle.exact.specs.Sum.{sum}
-use Rattle.exact.proofs.Ring.{ring, quotes}
-use Rattle.exact.proofs.Sum.{ind, sum-cong, sum-+, sum--, sum-*, sum-swap, sum-one-term, sum-zero}
-
--- what the gaps bring to label i as their right end, less what they take from it as their left
-abbrev pub flow : (m : ℕ) (u v : ℕ → ℕ) (Λ : ℕ → ℤ) → ℕ → ℤ
-flow m u v Λ i = sum m (λ e. ind (eqb (v e) i) *ℤ Λ e) -ℤ sum m (λ e. ind (eqb (u e) i) *ℤ Λ e)
+use Rattle.algebra.specs.Sum.{sum, ind}
+use Rattle.algebra.proofs.Ring.{ring, quotes}
+use Rattle.algebra.proofs.Sum.{sum-cong, sum-+, sum--, sum-*, sum-swap, sum-one-term, sum-zero}
+use Rattle.least_move.specs.States.{flow}
 
 -- a sum over the labels that names one label
 pub at-label : (n : ℕ) (φ : ℕ → ℤ) (k : ℕ) → k < n → (c : ℤ) → sum n (λ i. φ i *ℤ (ind (eqb k i) *ℤ c)) ≡ φ k *ℤ c

@@ -9,11 +9,11 @@ use lib.IntN.{ℤ, pos, negℤ, _+ℤ_, _-ℤ_, _*ℤ_}
 use lib.Signed.{_≤ℤ_, _<ℤ_}
 use Rattle.exact.specs.declared.Fraction.{Fraction}
 use Rattle.exact.specs.Fraction.{IsFraction, LowestTerms, _≃_, _≼_, _⊖_, _⊛_, whole, square}
-use Rattle.exact.specs.Sum.{total}
-use Rattle.exact.proofs.Whole.{le-trans, le-of-eq, le-of-lt, not-le-of-lt, *ℤ-above, *ℤ-le}
-use Rattle.exact.proofs.Ring.{ring, quotes, le-given, eq-given, le-goal}
+use Rattle.exact.specs.Total.{total}
+use Rattle.algebra.proofs.Whole.{le-trans, le-of-eq, le-of-lt, not-le-of-lt, *ℤ-above, *ℤ-le}
+use Rattle.algebra.proofs.Ring.{ring, quotes, le-given, eq-given, le-goal}
 use Rattle.exact.proofs.Fractions.{AtScale, CommonScale, CommonScale₂, CommonScale₃, common, common₂, common₃, rescale, rescale′, scale-self, ≼-scale, ≃-scale, ⊖-≼-scale, ⊖-scale, ⊛-scale, whole-scale, square-scale, total-scale, total-above, whole-above, ⊖-above, square-above}
-use Rattle.least_move.specs.declared.Label.{Label}
+use Rattle.ground.specs.declared.Label.{Label}
 use Rattle.least_move.specs.Sheet.{Sheet, Kind, at-least, exactly, ignored, Proper, label, gapNumber}
 use Rattle.least_move.specs.Placement.{Placement, Feasible, LeastMove, cost}
 use Rattle.least_move.specs.Multipliers.{Multipliers, Conditions}

@@ -11,33 +11,13 @@ use lib.IntN.{ℤ, pos, negsuc, natAbs, _+ℤ_, _-ℤ_, _*ℤ_, +ℤ-idl, *ℤ-z
 use lib.Signed.{_≤ℤ_, _<ℤ_}
 use lib.Dec.{eqb}
 use borrow.Author.Tests.{eqb-true, eqb-false}
-use Rattle.exact.specs.Sum.{sum}
-use Rattle.exact.proofs.Whole.{pp-*, nn-*, parts-+, parts-natAbs, le-parts, parts-le, lt-parts, parts-lt, le-trans, le-of-eq, le-of-lt, +ℤ-le, *ℤ-le-cancel, *ℤ-+ℤ, *ℤ-nonneg, *ℤ-above, *ℤ-cancel, square-nonneg}
-use Rattle.exact.proofs.Ring.{ring, quotes, le-given, lt-given, eq-given, le-goal, lt-goal, eq-goal}
-use Rattle.exact.proofs.Sum.{ind, sum-cong, sum-+, sum--, sum-*, sum-zero, sum-nonneg, sum-nonneg-zero, sum-bound}
-use Rattle.least_move.proofs.Flow.{flow, at-label, by-parts, flow-lin}
-use Rattle.least_move.proofs.Forest.{OnlyOn, apart-zero, by-mark, no-load, pass-flow}
-
--- what the force s on gap c brings to label i
-abbrev pub push : (a b : ℕ) (s : ℤ) → ℕ → ℤ
-push a b s i = s *ℤ (ind (eqb b i) -ℤ ind (eqb a i))
-
--- places and loads that balance under the push, with every marked gap tight
-pub record State (n m : ℕ) (u v : ℕ → ℕ) (w D G : ℕ → ℤ) (F : ℕ → Bool) (a b : ℕ) (s : ℤ) (X Λ : ℕ → ℤ) : Type 0 where
-  pub off : OnlyOn m F Λ
-  pub tight : (e : ℕ) → e < m → F e ≡ true → X (v e) ≡ X (u e) +ℤ G e
-  pub balance : (i : ℕ) → i < n → pos 2 *ℤ (w i *ℤ (X i -ℤ D i)) ≡ flow m u v Λ i +ℤ push a b s i
-
--- the cost of places, and by how much gap c does not hold
-abbrev pub costZ : (n : ℕ) (w D X : ℕ → ℤ) → ℤ
-costZ n w D X = sum n (λ i. w i *ℤ ((X i -ℤ D i) *ℤ (X i -ℤ D i)))
-
-abbrev pub viol : (a b : ℕ) (g : ℤ) (X : ℕ → ℤ) → ℤ
-viol a b g X = X a +ℤ g -ℤ X b
-
--- what never falls within an outer step: twice the cost, and the push times the violation
-abbrev pub dual : (n : ℕ) (w D : ℕ → ℤ) (a b : ℕ) (g s : ℤ) (X : ℕ → ℤ) → ℤ
-dual n w D a b g s X = pos 2 *ℤ costZ n w D X +ℤ pos 2 *ℤ s *ℤ viol a b g X
+use Rattle.algebra.specs.Sum.{sum, ind}
+use Rattle.algebra.proofs.Whole.{pp-*, nn-*, parts-+, parts-natAbs, le-parts, parts-le, lt-parts, parts-lt, le-trans, le-of-eq, le-of-lt, +ℤ-le, *ℤ-le-cancel, *ℤ-+ℤ, *ℤ-nonneg, *ℤ-above, *ℤ-cancel, square-nonneg}
+use Rattle.algebra.proofs.Ring.{ring, quotes, le-given, lt-given, eq-given, le-goal, lt-goal, eq-goal}
+use Rattle.algebra.proofs.Sum.{sum-cong, sum-+, sum--, sum-*, sum-zero, sum-nonneg, sum-nonneg-zero, sum-bound}
+use Rattle.least_move.specs.States.{flow, OnlyOn, push, State, costZ, viol, dual}
+use Rattle.least_move.proofs.Flow.{at-label, by-parts, flow-lin}
+use Rattle.least_move.proofs.Forest.{apart-zero, by-mark, no-load, pass-flow}
 
 -- a tight gap keeps its length
 kept : (l x x' y y' g : ℤ) → y ≡ x +ℤ g → y' ≡ x' +ℤ g → l *ℤ (y' -ℤ y -ℤ (x' -ℤ x)) ≡ pos 0

@@ -7,12 +7,13 @@ use Prim.Native.Nat.{ℕ, _<_}
 use native.Mathlib.Omega.{arith}
 use lib.IntN.{ℤ, pos, _+ℤ_, _-ℤ_, _*ℤ_}
 use lib.Signed.{_≤ℤ_, _<ℤ_}
-use Rattle.exact.specs.Sum.{sum}
-use Rattle.exact.proofs.Whole.{le-trans, le-antisym, le-of-eq, le-of-lt, lt-of-le-of-lt, not-le-of-lt, le-or-lt, *ℤ-nonneg, *ℤ-above, square-nonneg}
-use Rattle.exact.proofs.Ring.{ring, quotes, le-given, lt-given, eq-given, le-goal, lt-goal, eq-goal, le-by}
-use Rattle.exact.proofs.Sum.{sum-cong, sum-+, sum--, sum-*, sum-zero, sum-le, sum-nonneg, sum-nonneg-zero}
+use Rattle.algebra.specs.Sum.{sum}
+use Rattle.algebra.proofs.Whole.{le-trans, le-antisym, le-of-eq, le-of-lt, lt-of-le-of-lt, not-le-of-lt, le-or-lt, *ℤ-nonneg, *ℤ-above, square-nonneg}
+use Rattle.algebra.proofs.Ring.{ring, quotes, le-given, lt-given, eq-given, le-goal, lt-goal, eq-goal, le-by}
+use Rattle.algebra.proofs.Sum.{sum-cong, sum-+, sum--, sum-*, sum-zero, sum-le, sum-nonneg, sum-nonneg-zero}
 use Rattle.least_move.specs.Sheet.{Kind, at-least, exactly, ignored}
-use Rattle.least_move.proofs.Flow.{flow, by-parts}
+use Rattle.least_move.specs.States.{flow}
+use Rattle.least_move.proofs.Flow.{by-parts}
 
 -- ---- the conditions at a scale
 

@@ -1,7 +1,7 @@
 -- An outer step in whole numbers: what is known of the blocks at the two ends of a pushing gap, and what each advance comes to.
 -- Labels and gaps are plain numbers: gap e goes from u e to v e over the distance g e; label i wants d i and weighs w i; F marks gaps.
 use mathlib.Core.Path.{_≡_, refl, sym, _∙_, ap, ap₂}
-use mathlib.Core.Logic.{_⊎_, _≢_, ⊎-elim}
+use mathlib.Core.Logic.{_≢_, ⊎-elim}
 use mathlib.Core.Bool.{Bool, true, false, true≢false}
 use mathlib.Core.List.{List, [], _∷_}
 use Prim.Native.Nat.{ℕ, _<_}
@@ -10,86 +10,17 @@ use lib.IntN.{ℤ, pos, negsuc, _+ℤ_, _-ℤ_, _*ℤ_, *ℤ-zero, zero-*ℤ}
 use lib.Signed.{_≤ℤ_, _<ℤ_}
 use lib.Dec.{eqb}
 use borrow.Author.Tests.{eqb-true, eqb-false}
-use Rattle.exact.specs.Sum.{sum}
-use Rattle.exact.proofs.Whole.{le-trans, le-of-eq, le-of-lt, lt-of-le-of-lt, *ℤ-nonneg, *ℤ-above, *ℤ-le, *ℤ-lt, *ℤ-lt-cancel}
-use Rattle.exact.proofs.Ring.{ring, quotes, lt-given, lt-goal, le-by}
-use Rattle.exact.proofs.Sum.{ind, sum-cong, sum-*}
-use Rattle.least_move.specs.Sheet.{Kind, at-least, exactly, ignored}
-use Rattle.least_move.proofs.Flow.{flow, flow-lin}
-use Rattle.least_move.proofs.Forest.{OnlyOn, Independent, by-mark, multipliers-unique}
-use Rattle.least_move.proofs.Progress.{push, State, costZ, viol, dual, gap-above, work, state-drop, state-unpushed, with-push, dual-cost, progress-grows, progress-grows-lt, places-unique}
+use Rattle.algebra.specs.Sum.{sum, ind}
+use Rattle.algebra.proofs.Whole.{le-trans, le-of-eq, le-of-lt, lt-of-le-of-lt, *ℤ-nonneg, *ℤ-above, *ℤ-le, *ℤ-lt, *ℤ-lt-cancel}
+use Rattle.algebra.proofs.Ring.{ring, quotes, lt-given, lt-goal, le-by}
+use Rattle.algebra.proofs.Sum.{sum-cong, sum-*}
+use Rattle.least_move.specs.Sheet.{at-least, exactly, ignored}
+use Rattle.least_move.specs.States.{flow, OnlyOn, Independent, push, viol, dual, Numbers, Sound, StateAt, costAt, PlacedAt, Settled, Pushed, Reached, Without, With, Pushes}
+use Rattle.least_move.proofs.Flow.{flow-lin}
+use Rattle.least_move.proofs.Forest.{by-mark, multipliers-unique}
+use Rattle.least_move.proofs.Progress.{gap-above, work, state-drop, state-unpushed, with-push, dual-cost, progress-grows, progress-grows-lt, places-unique}
 use Rattle.least_move.proofs.Blocks.{pick-in, not-label, not-true, restrict-flow, state-marked}
 use Rattle.least_move.proofs.Advance.{Drift, Rate, state-along, rate-lawful, rate-spent, rate-way}
-
--- the whole numbers of a sheet
-pub record Numbers : Type 0 where
-  pub n : ℕ
-  pub m : ℕ
-  pub u : ℕ → ℕ
-  pub v : ℕ → ℕ
-  pub kind : ℕ → Kind
-  pub w : ℕ → ℤ
-  pub d : ℕ → ℤ
-  pub g : ℕ → ℤ
-
--- gaps whose ends are labels, and weights above zero
-pub record Sound (z : Numbers) : Type 0 where
-  pub left-in : (e : ℕ) → e < z .m → z .u e < z .n
-  pub right-in : (e : ℕ) → e < z .m → z .v e < z .n
-  pub heavy : (i : ℕ) → i < z .n → pos 0 <ℤ z .w i
-
--- a state at scale N, with the push s from label a to label b
-abbrev pub StateAt : (z : Numbers) (F : ℕ → Bool) (a b : ℕ) (N s : ℤ) (X Λ : ℕ → ℤ) → Type 0
-StateAt z F a b N s X Λ = State (z .n) (z .m) (z .u) (z .v) (z .w) (λ i. N *ℤ z .d i) (λ e. N *ℤ z .g e) F a b s X Λ
-
-abbrev pub costAt : (z : Numbers) (N : ℤ) (X : ℕ → ℤ) → ℤ
-costAt z N X = costZ (z .n) (z .w) (λ i. N *ℤ z .d i) X
-
--- marked gaps of the kind at least carry nothing below zero; an ignored gap is never marked
-pub record Lawful (z : Numbers) (F : ℕ → Bool) (Λ : ℕ → ℤ) : Type 0 where
-  pub carries : (e : ℕ) → e < z .m → F e ≡ true → z .kind e ≡ at-least → pos 0 ≤ℤ Λ e
-  pub asked : (e : ℕ) → e < z .m → F e ≡ true → z .kind e ≢ ignored
-
--- places num i / den i at scale N
-abbrev pub PlacedAt : (z : Numbers) (N : ℤ) (X num den : ℕ → ℤ) → Type 0
-PlacedAt z N X num den = (i : ℕ) → i < z .n → X i *ℤ den i ≡ N *ℤ num i
-
--- between outer steps: the places are the least move for the marked gaps alone
-pub record Settled (z : Numbers) (F : ℕ → Bool) (num den : ℕ → ℤ) : Type 0 where
-  pub N : ℤ
-  pub X : ℕ → ℤ
-  pub Λ : ℕ → ℤ
-  pub above : pos 0 <ℤ N
-  pub state : StateAt z F 0 0 N (pos 0) X Λ
-  pub lawful : Lawful z F Λ
-  pub places : PlacedAt z N X num den
-
--- within an outer step: label a pushes label b, which should stand h to its right; the places at the start were num i / den i
-pub record Pushed (z : Numbers) (F : ℕ → Bool) (a b : ℕ) (h : ℤ) (num den : ℕ → ℤ) : Type 0 where
-  pub N : ℤ
-  pub s : ℤ
-  pub X : ℕ → ℤ
-  pub Λ : ℕ → ℤ
-  pub X₀ : ℕ → ℤ
-  pub above : pos 0 <ℤ N
-  pub forward : pos 0 ≤ℤ s
-  pub state : StateAt z F a b N s X Λ
-  pub lawful : Lawful z F Λ
-  pub short : pos 0 <ℤ viol a b (N *ℤ h) X
-  pub origin : PlacedAt z N X₀ num den
-  pub grown : (pos 2 *ℤ costAt z N X₀) ≤ℤ dual (z .n) (z .w) (λ i. N *ℤ z .d i) a b (N *ℤ h) s X
-
--- at the end of an outer step: balanced without a push, at a larger cost than at the start
-pub record Reached (z : Numbers) (F : ℕ → Bool) (num den : ℕ → ℤ) : Type 0 where
-  pub N : ℤ
-  pub X : ℕ → ℤ
-  pub Λ : ℕ → ℤ
-  pub X₀ : ℕ → ℤ
-  pub above : pos 0 <ℤ N
-  pub state : StateAt z F 0 0 N (pos 0) X Λ
-  pub lawful : Lawful z F Λ
-  pub origin : PlacedAt z N X₀ num den
-  pub more : costAt z N X₀ <ℤ costAt z N X
 
 -- The block S of a root, of weight W: label i of it stands at num i / W, but for a force on the block; r and q are the loads that
 -- eliminate what the labels lack of their balance, and their shares of the block's weight, towards the root.
@@ -102,21 +33,6 @@ pub record BlockSide (z : Numbers) (F : ℕ → Bool) (root : ℕ) (S : ℕ → 
   pub r-flow : (i : ℕ) → i < z .n → flow (z .m) (z .u) (z .v) r i ≡ ind (S i) *ℤ (pos 2 *ℤ (z .w i *ℤ (num i -ℤ z .d i *ℤ W)))
   pub q-flow : (i : ℕ) → i < z .n → flow (z .m) (z .u) (z .v) q i ≡ ind (S i) *ℤ share i -ℤ ind (eqb root i) *ℤ W
   pub mean : (N : ℤ) (X : ℕ → ℤ) (f : ℤ) → ((e : ℕ) → e < z .m → F e ≡ true → X (z .v e) ≡ X (z .u e) +ℤ N *ℤ z .g e) → sum (z .n) (λ i. ind (S i) *ℤ (pos 2 *ℤ (z .w i *ℤ (X i -ℤ N *ℤ z .d i)))) ≡ f → (i : ℕ) → i < z .n → S i ≡ true → pos 2 *ℤ (W *ℤ X i) ≡ pos 2 *ℤ (N *ℤ num i) +ℤ f
-
--- the marks without gap k, and with it
-pub record Without (m : ℕ) (F : ℕ → Bool) (k : ℕ) (F' : ℕ → Bool) : Type 0 where
-  pub gone : F' k ≡ false
-  pub others : (e : ℕ) → e < m → e ≢ k → F' e ≡ F e
-
-pub record With (m : ℕ) (F : ℕ → Bool) (k : ℕ) (F' : ℕ → Bool) : Type 0 where
-  pub there : F' k ≡ true
-  pub others : (e : ℕ) → e < m → e ≢ k → F' e ≡ F e
-
--- gap k asks that label b stand at least h to the right of label a: a gap of the kind at least as it is, an exact one either way
-abbrev pub Pushes : Numbers → ℕ → ℕ → ℕ → ℤ → Type 0
-Pushes z k a b h =
-    ((z .u k ≡ a) × (z .v k ≡ b) × (z .g k ≡ h) × (z .kind k ≢ ignored))
-    ⊎ ((z .v k ≡ a) × (z .u k ≡ b) × (pos 0 -ℤ z .g k ≡ h) × (z .kind k ≡ exactly))
 
 -- ---- plain numbers
 

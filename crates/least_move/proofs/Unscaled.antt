@@ -11,22 +11,21 @@ use lib.Dec.{eqb}
 use borrow.Author.Tests.{eqb-true, eq-eqb}
 use Rattle.exact.specs.declared.Fraction.{Fraction}
 use Rattle.exact.specs.Fraction.{IsFraction, _≃_, whole, Reduced}
-use Rattle.exact.proofs.Whole.{le-trans, le-of-eq, le-of-lt, *ℤ-above, *ℤ-nonneg, *ℤ-le-cancel, *ℤ-cancel}
-use Rattle.exact.proofs.Ring.{ring, quotes, le-given, le-goal}
-use Rattle.exact.proofs.Sum.{ind}
+use Rattle.algebra.proofs.Whole.{le-trans, le-of-eq, le-of-lt, *ℤ-above, *ℤ-nonneg, *ℤ-le-cancel, *ℤ-cancel}
+use Rattle.algebra.proofs.Ring.{ring, quotes, le-given, le-goal}
+use Rattle.algebra.specs.Sum.{ind}
 use Rattle.exact.proofs.Fractions.{AtScale, scale-resp}
-use Rattle.least_move.specs.declared.Label.{Label}
-use Rattle.least_move.specs.declared.GapNumber.{GapNumber}
+use Rattle.ground.specs.declared.Label.{Label}
+use Rattle.ground.specs.declared.GapNumber.{GapNumber}
 use Rattle.least_move.specs.Sheet.{Sheet, Kind, at-least, exactly, ignored, Proper, label, gapNumber}
 use Rattle.least_move.specs.Placement.{Placement, Tight}
 use Rattle.least_move.specs.Multipliers.{Multipliers, Lawful, Conditions}
 use Rattle.least_move.specs.Marks.{Marks}
 use Rattle.least_move.proofs.Scaled.{slack, Meets-at}
 use Rattle.least_move.proofs.Bridge.{lefts, rights, weights, kinds, distances, Meets-all, Places-at, Multipliers-at, tight-back, meets-back, balance-scale, none-scale, some-scale}
-use Rattle.least_move.proofs.Flow.{flow}
-use Rattle.least_move.proofs.Forest.{OnlyOn, Independent, by-mark, independent-drop, pass-flow, no-ring}
-use Rattle.least_move.proofs.Sides.{Numbers, Sound, StateAt, PlacedAt}
-use Rattle.least_move.proofs.Sides
+use Rattle.least_move.specs.States.{flow, OnlyOn, Independent, Numbers, Sound, StateAt, PlacedAt}
+use Rattle.least_move.proofs.Forest.{by-mark, independent-drop, pass-flow, no-ring}
+use Rattle.least_move.specs.States
 
 -- ---- a sheet's numbers
 
@@ -85,7 +84,7 @@ no-slack : (x g y : ℤ) → y ≡ x +ℤ g → y -ℤ x -ℤ g ≡ pos 0
 no-slack x g y e = ap (λ t. t -ℤ x -ℤ g) e ∙ ring (x ∷ g ∷ []) (search quotes depth 12) (search quotes depth 12) refl
 
 module _ (s : Sheet) (proper : Proper s) (F : ℕ → Bool) (indep : Independent (s .labels) (s .gaps) (lefts s) (rights s) F)
-    (N : ℤ) (X Λ : ℕ → ℤ) (above : pos 0 <ℤ N) (st : StateAt (numbersFrom s) F 0 0 N (pos 0) X Λ) (law : Sides.Lawful (numbersFrom s) F Λ) (meets : Meets-all s N X)
+    (N : ℤ) (X Λ : ℕ → ℤ) (above : pos 0 <ℤ N) (st : StateAt (numbersFrom s) F 0 0 N (pos 0) X Λ) (law : States.Lawful (numbersFrom s) F Λ) (meets : Meets-all s N X)
     (p : Placement) (k : Multipliers) (at : (i : Label) → i .0 < s .labels → IsFraction (p i) × AtScale N (X (i .0)) (p i)) (loads : (e : GapNumber) → e .0 < s .gaps → IsFraction (k e) × AtScale N (Λ (e .0)) (k e)) where
   placed : Places-at s N X p
   placed i h = at (label i) h .1

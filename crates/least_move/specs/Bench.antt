@@ -8,8 +8,8 @@ use lib.Dec.{eqb}
 use lib.IntN.{ℤ, pos, negℤ, _-ℤ_}
 use Rattle.exact.specs.declared.Fraction.{Fraction}
 use Rattle.exact.specs.Fraction.{_≃_, _⊖_, whole, LowestTerms}
-use Rattle.least_move.specs.declared.Label.{Label}
-use Rattle.least_move.specs.declared.GapNumber.{GapNumber}
+use Rattle.ground.specs.declared.Label.{Label}
+use Rattle.ground.specs.declared.GapNumber.{GapNumber}
 use Rattle.least_move.specs.Sheet.{Sheet, Gap, at-least, label, gapNumber}
 use Rattle.least_move.specs.Placement.{Placement, Feasible, LeastMove}
 use Rattle.least_move.specs.Multipliers.{Multipliers, Conditions}

@@ -5,3 +5,4 @@ pub mod Marks
 pub mod Ring
 pub mod Moved
 pub mod Bench
+pub mod States

@@ -1,14 +1,14 @@
 -- Marks (document 01, "What a station lends"): which gaps hold the labels together.
-use Prim.Native.Nat.{ℕ, _<_}
+use Prim.Native.Nat.{_<_}
 use mathlib.Core.Path.{_≡_}
 use mathlib.Core.Logic.{_≢_}
 use mathlib.Core.Bool.{Bool, true, false, cond}
 use mathlib.Core.List.{List, [], _∷_}
 use lib.IntN.{pos}
 use Rattle.exact.specs.Fraction.{_≃_, whole}
-use Rattle.least_move.specs.declared.Label.{Label}
-use Rattle.least_move.specs.declared.GapNumber.{GapNumber}
-use Rattle.least_move.specs.Sheet.{Sheet, Gap}
+use Rattle.ground.specs.declared.Label.{Label}
+use Rattle.ground.specs.declared.GapNumber.{GapNumber}
+use Rattle.least_move.specs.Sheet.{Sheet}
 use Rattle.least_move.specs.Placement.{Placement, Tight}
 use Rattle.least_move.specs.Multipliers.{Multipliers}
 

@@ -1,15 +1,15 @@
 -- Multipliers and their conditions (document 01, "Least move"; condition (3) of source document 003).
-use Prim.Native.Nat.{ℕ, _<_}
+use Prim.Native.Nat.{_<_}
 use mathlib.Core.Path.{_≡_}
-use mathlib.Core.Bool.{Bool, cond}
+use mathlib.Core.Bool.{cond}
 use lib.Dec.{eqb}
 use lib.IntN.{pos}
 use Rattle.exact.specs.declared.Fraction.{Fraction}
 use Rattle.exact.specs.Fraction.{IsFraction, _≃_, _≼_, _⊖_, _⊛_, whole}
-use Rattle.exact.specs.Sum.{total}
-use Rattle.least_move.specs.declared.Label.{Label}
-use Rattle.least_move.specs.declared.GapNumber.{GapNumber}
-use Rattle.least_move.specs.Sheet.{Sheet, Gap, Kind, at-least, exactly, ignored, gapNumber}
+use Rattle.exact.specs.Total.{total}
+use Rattle.ground.specs.declared.Label.{Label}
+use Rattle.ground.specs.declared.GapNumber.{GapNumber}
+use Rattle.least_move.specs.Sheet.{Sheet, Kind, at-least, exactly, ignored, gapNumber}
 use Rattle.least_move.specs.Placement.{Placement, Feasible, Tight, move}
 
 -- "Multipliers: one fraction per gap"

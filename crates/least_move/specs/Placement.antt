@@ -1,11 +1,10 @@
 -- Placements and the least move (document 01, "Least move").
-use Prim.Native.Nat.{ℕ, _<_}
-use lib.IntN.{ℤ, pos}
+use Prim.Native.Nat.{_<_}
 use Rattle.exact.specs.declared.Fraction.{Fraction}
 use Rattle.exact.specs.Fraction.{IsFraction, _≃_, _≼_, _⊕_, _⊖_, _⊛_, whole, square}
-use Rattle.exact.specs.Sum.{total}
-use Rattle.least_move.specs.declared.Label.{Label}
-use Rattle.least_move.specs.declared.GapNumber.{GapNumber}
+use Rattle.exact.specs.Total.{total}
+use Rattle.ground.specs.declared.Label.{Label}
+use Rattle.ground.specs.declared.GapNumber.{GapNumber}
 use Rattle.least_move.specs.Sheet.{Sheet, Gap, Kind, at-least, exactly, ignored, label}
 
 -- "Placement: one fraction per label"

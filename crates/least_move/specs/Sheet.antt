@@ -2,8 +2,8 @@
 use Prim.Native.Nat.{ℕ, _<_}
 use lib.IntN.{ℤ, pos}
 use lib.Signed.{_<ℤ_}
-use Rattle.least_move.specs.declared.Label.{Label}
-use Rattle.least_move.specs.declared.GapNumber.{GapNumber}
+use Rattle.ground.specs.declared.Label.{Label}
+use Rattle.ground.specs.declared.GapNumber.{GapNumber}
 
 -- "labels and gaps, both counted from 0"; a label's number and a gap's number are of different types, as in the code
 abbrev pub label : ℕ → Label

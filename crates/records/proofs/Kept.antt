@@ -10,11 +10,13 @@ use lib.ListN.{length, getD, set, take, replicate, length-set, length-replicate}
 use lib.Seq.{getD-set-same, getD-set-other, getD-take, length-take-le}
 use lib.IntN.{ℤ, pos}
 use borrow.Author.Tests.{ltb-true, ltb-false}
-use Rattle.layout.specs.declared.GapRecord.{GapRecord}
-use Rattle.layout.specs.declared.Answer.{Answer}
-use Rattle.layout.specs.Lent.{Read, Written, lists, records, recordAt, noRecord}
-use Rattle.layout.specs.Refusals.{Verdict, check, table}
-use Rattle.layout.specs.Promise.{Promise, ByTable, refusal}
+use Rattle.ground.specs.declared.GapRecord.{GapRecord}
+use Rattle.ground.specs.declared.Answer.{Answer}
+use Rattle.sheet_checks.specs.Lent.{Read, Written, lists, records, recordAt}
+use Rattle.ground.specs.Entries.{noRecord}
+use Rattle.sheet_checks.specs.Refusals.{Verdict, check, table}
+use Rattle.layout.specs.Promise.{Promise, ByTable}
+use Rattle.ground.specs.Answers.{refusal}
 use Rattle.records.specs.Records.{keptOf, copied, Apart, Keeps}
 use Rattle.records.proofs.Same.{SameGaps, promise-same}
 

@@ -10,14 +10,15 @@ use lib.ListN.{length}
 use lib.IntN.{ℤ, pos, negsuc}
 use Rattle.exact.specs.declared.Fraction.{Fraction}
 use Rattle.exact.specs.Fraction.{_≼_}
-use Rattle.layout.specs.declared.GapRecord.{GapRecord}
-use Rattle.layout.specs.declared.Answer.{Answer}
+use Rattle.ground.specs.declared.GapRecord.{GapRecord}
+use Rattle.ground.specs.declared.Answer.{Answer}
 use Rattle.least_move.specs.Sheet.{Gap, at-least, label}
 use Rattle.least_move.specs.Placement.{Placement, Feasible, LeastMove, Holds, cost}
-use Rattle.projection.proofs.Agreeing.{Agree, conditions-agree, marks-agree, ring-agree}
-use Rattle.layout.specs.Lent.{Read, Written, LentGaps, countOf, recordAt, sheetOf, placeOf}
-use Rattle.layout.specs.Refusals.{Verdict, refuse, pass, offender, outside, uneven, unequal, check, offPlate, badWeight, stranger, badGap, table}
-use Rattle.layout.specs.Promise.{Promise, ByTable, Accepted, Filled, RingGiven}
+use Rattle.core_project.proofs.Agreeing.{Agree, conditions-agree, marks-agree, ring-agree}
+use Rattle.sheet_checks.specs.Lent.{Read, Written, LentGaps, countOf, recordAt, sheetOf, placeOf}
+use Rattle.sheet_checks.specs.Refusals.{Verdict, refuse, pass, offender, outside, uneven, unequal, check, offPlate, badWeight, stranger, badGap, table}
+use Rattle.layout.specs.Promise.{Promise, ByTable, Accepted, RingGiven}
+use Rattle.ground.specs.Entries.{Filled}
 
 offender-same : (number n : ℕ) (bad bad′ : ℕ → Bool) (later later′ : Verdict) → ((k : ℕ) → k < n → bad k ≡ bad′ k) → later ≡ later′ → offender number n bad later ≡ offender number n bad′ later′
 unfolding offender

@@ -6,33 +6,35 @@ use mathlib.Core.List.{List}
 use lib.Dec.{ltb}
 use lib.ListN.{length, getD, set, replicate}
 use lib.IntN.{ℤ, pos}
-use Rattle.layout.specs.declared.GapRecord.{GapRecord}
-use Rattle.layout.specs.declared.Answer.{Answer}
-use Rattle.layout.specs.Lent.{Written, records, noRecord}
+use Rattle.ground.specs.declared.GapRecord.{GapRecord}
+use Rattle.ground.specs.declared.Answer.{Answer}
+use Rattle.sheet_checks.specs.Lent.{Written, records}
+use Rattle.ground.specs.Entries.{noRecord}
 use Rattle.layout.specs.Promise.{Promise}
+use Rattle.ground.specs.Limits.{gapsMost}
 
 -- how many records are kept: none of a list that is too long for a sheet
 abbrev pub keptOf : ℕ → ℕ
-keptOf count = cond (ltb 192 count) 0 count
+keptOf count = cond (ltb gapsMost count) 0 count
 
 -- the first n records in a list of fixed length, one after the other
 unfoldable pub copied : List GapRecord → ℕ → List GapRecord
-copied gs zero = replicate 192 noRecord
+copied gs zero = replicate gapsMost noRecord
 copied gs (suc n) = set (copied gs n) n (getD gs n noRecord)
 
 -- three lists hold the numbers of the records
 pub record Apart (kept : List GapRecord) (left right : List ℕ) (distance : List ℤ) : Type 0 where
-  pub left-length : length left ≡ 192
-  pub right-length : length right ≡ 192
-  pub distance-length : length distance ≡ 192
-  pub lefts : (k : ℕ) → k < 192 → getD left k 0 ≡ getD kept k noRecord .left
-  pub rights : (k : ℕ) → k < 192 → getD right k 0 ≡ getD kept k noRecord .right
-  pub distances : (k : ℕ) → k < 192 → getD distance k (pos 0) ≡ getD kept k noRecord .distance
+  pub left-length : length left ≡ gapsMost
+  pub right-length : length right ≡ gapsMost
+  pub distance-length : length distance ≡ gapsMost
+  pub lefts : (k : ℕ) → k < gapsMost → getD left k 0 ≡ getD kept k noRecord .left
+  pub rights : (k : ℕ) → k < gapsMost → getD right k 0 ≡ getD kept k noRecord .right
+  pub distances : (k : ℕ) → k < gapsMost → getD distance k (pos 0) ≡ getD kept k noRecord .distance
 
 -- the records kept are all of the list, if that is not too long
 pub record Keeps (gs : List GapRecord) (count : ℕ) (kept : List GapRecord) : Type 0 where
   pub counted : length gs ≡ count
-  pub all : count ≤ 192 → (k : ℕ) → k < count → getD kept k noRecord ≡ getD gs k noRecord
+  pub all : count ≤ gapsMost → (k : ℕ) → k < count → getD kept k noRecord ≡ getD gs k noRecord
 
 -- the promise of a call, for every list of which these records are kept
 abbrev pub Owed : (wanted weight : List ℤ) (count : ℕ) (kept : List GapRecord) → Written → Answer → Written → Type 0

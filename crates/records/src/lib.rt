@@ -1,37 +1,43 @@
 // Lays out a sheet whose gaps are lent as one list of records.
-use exact::Refusal;
-use layout::Answer;
-use layout::GapRecord;
+use ground::Answer;
+use ground::GapRecord;
+use ground::Refusal;
+use ground::lengths::measured_gap_indices;
+use ground::lengths::measured_gaps;
+use ground::limits::GAPS;
+use ground::limits::GapIndices;
+use ground::limits::GapInts;
+use ground::limits::LABELS;
 use layout::lists::lay_out;
-use projection::whole::whole_distances;
-use projection::whole::whole_ends;
 ghost use mathlib.Core.Path.{_≡_};
 ghost use Prim.Native.Nat.{_≤_};
 ghost use lib.ListN.{length};
-ghost use Rattle.layout.specs.Lent.{records};
+ghost use Rattle.sheet_checks.specs.Lent.{recordsLent, roomLent};
 ghost use Rattle.layout.specs.Promise.{Promise};
 ghost use Rattle.records.specs.Records.{keptOf, copied, Apart, Owed};
+ghost use Rattle.ground.specs.Limits.{gapsMost};
+ghost use Rattle.ground.specs.Views.{after, before};
 
 // How many records are kept: none of a list that is too long for a sheet.
 fn kept_count(count: usize) -> usize
     ensures { λ r. ⌜ r ≡ keptOf count ⌝ }
 {
-    if 192 < count {
+    if GAPS < count {
         return 0;
     }
     count
 }
 
 // Copies the first records. A reference to a record is met here and in the public entry alone.
-fn copy_records(gaps: &[GapRecord], count: usize) -> [GapRecord; 192]
-    requires { ⌜ (count ≤ length (now gaps)) × (count ≤ 192) ⌝ }
-    ensures { λ r. ⌜ r ≡ copied (now (gaps .entry)) count ⌝ }
+fn copy_records(gaps: &[GapRecord], count: usize) -> [GapRecord; GAPS]
+    requires { ⌜ (count ≤ length (now gaps)) × (count ≤ gapsMost) ⌝ }
+    ensures { λ r. ⌜ r ≡ copied (before gaps) count ⌝ }
 {
     let mut kept = [GapRecord {
         left: 0,
         right: 0,
         distance: 0,
-    }; 192];
+    }; GAPS];
     let mut k: usize = 0;
     while k < count {
         kept[k] = gaps[k];
@@ -42,18 +48,18 @@ fn copy_records(gaps: &[GapRecord], count: usize) -> [GapRecord; 192]
 
 // Takes the records apart.
 fn take_apart(
-    kept: [GapRecord; 192],
-    left: &mut [usize; 192],
-    right: &mut [usize; 192],
-    distance: &mut [i64; 192],
+    kept: [GapRecord; GAPS],
+    left: &mut GapIndices,
+    right: &mut GapIndices,
+    distance: &mut GapInts,
 )
-    ensures { λ _. ⌜ Apart kept (now (left .exit)) (now (right .exit)) (now (distance .exit)) ⌝ }
+    ensures { λ _. ⌜ Apart kept (after left) (after right) (after distance) ⌝ }
 {
-    whole_ends(left);
-    whole_ends(right);
-    whole_distances(distance);
+    measured_gap_indices(left);
+    measured_gap_indices(right);
+    measured_gaps(distance);
     let mut k: usize = 0;
-    while k < 192 {
+    while k < GAPS {
         let gap = kept[k];
         let d = gap.distance;
         left[k] = gap.left;
@@ -66,7 +72,7 @@ fn take_apart(
 // Lays out a sheet that has this many records, of which these are kept.
 fn lay_out_kept(
     count: usize,
-    kept: [GapRecord; 192],
+    kept: [GapRecord; GAPS],
     wanted: &[i64],
     weight: &[i64],
     carried: &mut [u8],
@@ -76,19 +82,21 @@ fn lay_out_kept(
     mult_den: &mut [i64],
     ring: &mut [usize],
 ) -> Answer
-    ensures { λ r. ⌜ Owed (now (wanted .entry)) (now (weight .entry)) count kept (record { «place-num» = now («place_num» .entry); «place-den» = now («place_den» .entry); «mult-num» = now («mult_num» .entry); «mult-den» = now («mult_den» .entry); ring = now (ring .entry); carried = now (carried .entry) }) r (record { «place-num» = now («place_num» .exit); «place-den» = now («place_den» .exit); «mult-num» = now («mult_num» .exit); «mult-den» = now («mult_den» .exit); ring = now (ring .exit); carried = now (carried .exit) }) ⌝ }
+    ensures { λ r.
+        let room = roomLent carried «place_num» «place_den» «mult_num» «mult_den» ring in
+        ⌜ Owed (before wanted) (before weight) count kept (room .entry) r (room .exit) ⌝ }
 {
-    if 192 < count {
-        let number = if 48 < wanted.len() { 1 } else { 2 };
+    if GAPS < count {
+        let number = if LABELS < wanted.len() { 1 } else { 2 };
         return Answer::Refused(Refusal {
             number,
             place: 0,
             ring: 0,
         });
     }
-    let mut left = [0usize; 192];
-    let mut right = [0usize; 192];
-    let mut distance = [0i64; 192];
+    let mut left = [0usize; GAPS];
+    let mut right = [0usize; GAPS];
+    let mut distance = [0i64; GAPS];
     take_apart(kept, &mut left, &mut right, &mut distance);
     lay_out(
         wanted,
@@ -117,7 +125,10 @@ pub fn lay_out_records(
     mult_den: &mut [i64],
     ring: &mut [usize],
 ) -> Answer
-    ensures { λ r. ⌜ Promise (record { wanted = now (wanted .entry); weight = now (weight .entry); gaps = records (now (gaps .entry)) }) (record { «place-num» = now («place_num» .entry); «place-den» = now («place_den» .entry); «mult-num» = now («mult_num» .entry); «mult-den» = now («mult_den» .entry); ring = now (ring .entry); carried = now (carried .entry) }) r (record { «place-num» = now («place_num» .exit); «place-den» = now («place_den» .exit); «mult-num» = now («mult_num» .exit); «mult-den» = now («mult_den» .exit); ring = now (ring .exit); carried = now (carried .exit) }) ⌝ }
+    ensures { λ r.
+        let room = roomLent carried «place_num» «place_den» «mult_num» «mult_den» ring in
+        let sheet = recordsLent wanted weight gaps in
+        ⌜ Promise sheet (room .entry) r (room .exit) ⌝ }
 {
     let count = gaps.len();
     let kept = copy_records(gaps, kept_count(count));

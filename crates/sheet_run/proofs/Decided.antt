@@ -7,19 +7,21 @@ use lib.ListN.{length, getD, take, length-replicate}
 use lib.Seq.{getD-take, length-take-le, ext-getD}
 use lib.IntN.{ℤ, pos}
 use Rattle.exact.specs.declared.Fraction.{Fraction}
-use Rattle.least_move.specs.declared.Label.{Label}
+use Rattle.ground.specs.declared.Label.{Label}
 use Rattle.least_move.specs.Sheet.{label}
-use Rattle.layout.specs.declared.Answer.{Answer}
-use Rattle.layout.specs.declared.Answer.the-variants as answer
-use Rattle.layout.specs.Lent.{labelCount, placeOf, multiplierOf}
-use Rattle.layout.specs.Refusals.{Verdict, refuse, pass, table}
-use Rattle.layout.specs.Promise.{Accepted, Filled, refusal, ringLengthOf}
+use Rattle.ground.specs.declared.Answer.{Answer}
+use Rattle.ground.specs.declared.Answer.the-variants as answer
+use Rattle.sheet_checks.specs.Lent.{labelCount, placeOf, multiplierOf}
+use Rattle.sheet_checks.specs.Refusals.{Verdict, refuse, pass, table}
+use Rattle.layout.specs.Promise.{Accepted}
+use Rattle.ground.specs.Entries.{Filled}
+use Rattle.ground.specs.Answers.{refusal, ringLengthOf}
 use Rattle.layout.proofs.Facts.{refused-by-table, judged, places-known}
-use Rattle.sheet_text.specs.declared.Counts.{Counts}
-use Rattle.sheet_text.specs.declared.Reading.{Reading}
-use Rattle.sheet_text.specs.declared.Reading.the-variants.{Sheet, Refused}
-use Rattle.sheet_text.specs.Texts.{Lists, reading}
-use Rattle.sheet_text.specs.Listing.{listing, refusedRecord}
+use Rattle.text_reading.specs.declared.Counts.{Counts}
+use Rattle.text_reading.specs.declared.Reading.{Reading}
+use Rattle.text_reading.specs.declared.Reading.the-variants.{Sheet, Refused}
+use Rattle.text_reading.specs.Texts.{Lists, reading}
+use Rattle.text_listing.specs.Listing.{listing, refusedRecord}
 use Rattle.sheet_run.specs.Run.{blank, sheetRead, lent, LaidOut, PrintedFor, Run}
 use Rattle.sheet_run.proofs.Refusals.{SmallReading, small-reading}
 

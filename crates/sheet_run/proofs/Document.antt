@@ -7,21 +7,21 @@ use lib.ListN.{getD, take, length-replicate, List·getD-map}
 use lib.IntN.{pos, negsuc}
 use Rattle.exact.specs.declared.Fraction.{Fraction}
 use Rattle.exact.specs.Fraction.{LowestTerms}
-use Rattle.least_move.specs.declared.Label.{Label}
+use Rattle.ground.specs.declared.Label.{Label}
 use Rattle.least_move.specs.Sheet.{Sheet, at-least, label}
 use Rattle.least_move.specs.Multipliers.{Conditions}
 use Rattle.least_move.specs.Bench.{WrittenGap, placed, P3, RightPlaced, bench, placement, multipliers, _to_of_}
 use Rattle.least_move.specs.Bench as bench
 use Rattle.least_move.proofs.Bench.{bench-right}
-use Rattle.layout.specs.declared.Answer.the-variants.{Placed}
-use Rattle.layout.specs.Lent.{Read, sheetOf, placeOf}
-use Rattle.layout.specs.Refusals.{pass, offender, table}
+use Rattle.ground.specs.declared.Answer.the-variants.{Placed}
+use Rattle.sheet_checks.specs.Lent.{Read, sheetOf, placeOf}
+use Rattle.sheet_checks.specs.Refusals.{pass, offender, table}
 use Rattle.layout.specs.Promise.{Accepted}
 use Rattle.layout.proofs.Facts.{places-known, placed-accepted}
-use Rattle.sheet_text.specs.declared.Reading.the-variants.{Sheet as sheet-of}
-use Rattle.sheet_text.specs.Texts.{Lists, Done, countsOf, filled, roomFor, reading}
-use Rattle.sheet_text.proofs.Examples.{document-text, document-sheet, document-run}
-use Rattle.sheet_text.proofs.Samples.{first-record, second-record, run-listed}
+use Rattle.text_reading.specs.declared.Reading.the-variants.{Sheet as sheet-of}
+use Rattle.text_reading.specs.Texts.{Lists, Done, countsOf, filled, roomFor, reading}
+use Rattle.text_reading.proofs.Examples.{document-text, document-sheet, document-run}
+use Rattle.text_listing.proofs.Samples.{first-record, second-record, run-listed}
 use Rattle.sheet_run.specs.Run.{blank, sheetRead, lent, LaidOut, PrintedFor, Run}
 use Rattle.sheet_run.proofs.Decided.{first-same}
 

@@ -1,7 +1,7 @@
 -- 3,072 bytes are enough for what any run prints, so the listing is never refused with 4.
 use Prim.Native.Nat.{ℕ, zero, suc, _≤_, _<_}
 use mathlib.Core.Path.{_≡_, refl}
-use mathlib.Core.Logic.{_⊎_, ⊎-elim}
+use mathlib.Core.Logic.{⊎-elim}
 use mathlib.Core.Bool.{Bool, true, false}
 use mathlib.Core.List.{List, [], _∷_}
 use native.Mathlib.Omega.{arith}
@@ -12,20 +12,20 @@ use lib.IntN.{ℤ, pos, natAbs}
 use borrow.Author.Tests.{ltb-true, ltb-false}
 use mir.Syntax.{w64}
 use mir.Val.{SFits}
-use Rattle.exact.specs.declared.Refusal.{Refusal}
-use Rattle.exact.proofs.Divisor.{fits-of-natAbs}
+use Rattle.ground.specs.declared.Refusal.{Refusal}
+use Rattle.algebra.proofs.Quotient.{small-fits}
 use Rattle.least_move.specs.Sheet.{label}
-use Rattle.layout.specs.declared.Answer.{Answer}
-use Rattle.layout.specs.declared.Answer.the-variants as answer
-use Rattle.layout.specs.Lent.{Read, Written, labelCount, gapCount}
-use Rattle.layout.specs.Refusals.{Verdict, refuse, pass, table}
+use Rattle.ground.specs.declared.Answer.{Answer}
+use Rattle.ground.specs.declared.Answer.the-variants as answer
+use Rattle.sheet_checks.specs.Lent.{Read, Written, labelCount, gapCount}
+use Rattle.sheet_checks.specs.Refusals.{Verdict, refuse, pass, table}
 use Rattle.layout.specs.Promise.{Promise, ByTable, Accepted}
-use Rattle.sheet_text.specs.declared.Counts.{Counts}
-use Rattle.sheet_text.specs.declared.Reading.{Reading}
-use Rattle.sheet_text.specs.declared.Reading.the-variants.{Sheet, Refused}
-use Rattle.sheet_text.specs.Texts.{Lists, reading}
-use Rattle.sheet_text.specs.Listing.{listing, refusedRecord}
-use Rattle.sheet_text.proofs.Size.{AllFit, length-place-records, length-refused-record}
+use Rattle.text_reading.specs.declared.Counts.{Counts}
+use Rattle.text_reading.specs.declared.Reading.{Reading}
+use Rattle.text_reading.specs.declared.Reading.the-variants.{Sheet, Refused}
+use Rattle.text_reading.specs.Texts.{Lists, reading}
+use Rattle.text_listing.specs.Listing.{listing, refusedRecord}
+use Rattle.text_listing.proofs.Size.{AllFit, length-place-records, length-refused-record}
 use Rattle.sheet_run.specs.Run.{blank, sheetRead, lent, PrintedFor}
 use Rattle.sheet_run.proofs.Refusals.{Small, SmallReading, small-reading, small-answer}
 
@@ -44,8 +44,8 @@ first-fit : (n : ℕ) (l : List ℤ) → ((k : ℕ) → k < n → natAbs (getD l
 first-fit n l small k = go (ltb k n) refl
   where
     go : (t : Bool) → ltb k n ≡ t → SFits w64 (getD (take n l) k (pos 0))
-    go true e = rw (getD-take n l k (pos 0) (ltb-true k n e)) (fits-of-natAbs (getD l k (pos 0)) (omega (arith, small k (ltb-true k n e))))
-    go false e = rw (List·getD-eq-default (take n l) (pos 0) {n = k} (omega (arith, take-most n l, ltb-false k n e))) (fits-of-natAbs (pos 0) (omega arith))
+    go true e = rw (getD-take n l k (pos 0) (ltb-true k n e)) (small-fits (getD l k (pos 0)) (omega (arith, small k (ltb-true k n e))))
+    go false e = rw (List·getD-eq-default (take n l) (pos 0) {n = k} (omega (arith, take-most n l, ltb-false k n e))) (small-fits (pos 0) (omega arith))
 
 module _ (r : Read) (w : Written) (after : Written) (n : ℕ) (few : n ≤ 48) (known : n ≤ labelCount r) where
   -- "Every place is over a denominator of at most 4,800 and lies within 1,140,000 of zero"

@@ -7,11 +7,11 @@ use lib.ListN.{length, take, drop, replicate, length-append, length-drop}
 use lib.Seq.{take-at, drop-at}
 use lib.IntN.{ℤ}
 use borrow.Author.Tests.{le-leb, le-ltb, eq-eqb}
-use Rattle.exact.specs.declared.Refusal.{Refusal}
-use Rattle.layout.specs.declared.Answer.{Answer}
-use Rattle.layout.specs.declared.Answer.the-variants as answer
-use Rattle.sheet_text.specs.declared.Listed.the-variants.{Written, Refused}
-use Rattle.sheet_text.specs.Listing.{Listing, listing, listedIn}
+use Rattle.ground.specs.declared.Refusal.{Refusal}
+use Rattle.ground.specs.declared.Answer.{Answer}
+use Rattle.ground.specs.declared.Answer.the-variants as answer
+use Rattle.text_listing.specs.declared.Listed.the-variants.{Written, Refused}
+use Rattle.text_listing.specs.Listing.{Listing, listing, listedIn}
 use Rattle.sheet_run.specs.Steps.{Printed}
 
 -- the first of some equal entries

@@ -1,27 +1,27 @@
 -- How large the number and the place of a refusal can be, of a text and of a sheet.
 use Prim.Native.Nat.{ℕ, zero, suc, _+_, _≤_, _<_}
 use mathlib.Core.Path.{_≡_, refl, sym, subst}
-use mathlib.Core.Logic.{_⊎_, ⊎-elim}
+use mathlib.Core.Logic.{⊎-elim}
 use mathlib.Core.Bool.{Bool, true, false, cond, _&&_}
 use mathlib.Core.List.{List, [], _∷_}
 use native.Mathlib.Omega.{arith}
 use lib.Dec.{eqb, ltb}
 use lib.ListN.{length, length-append, length-map}
 use borrow.Author.Tests.{ltb-false}
-use Rattle.exact.specs.declared.Refusal.{Refusal}
-use Rattle.layout.specs.declared.Answer.{Answer}
-use Rattle.layout.specs.declared.Answer.the-variants as answer
-use Rattle.layout.specs.Lent.{Read, Written, labelCount, gapCount}
-use Rattle.layout.specs.Refusals.{Verdict, refuse, pass, check, offender, ragged, short, offPlate, badWeight, stranger, badGap, table}
+use Rattle.ground.specs.declared.Refusal.{Refusal}
+use Rattle.ground.specs.declared.Answer.{Answer}
+use Rattle.ground.specs.declared.Answer.the-variants as answer
+use Rattle.sheet_checks.specs.Lent.{Read, Written, labelCount, gapCount}
+use Rattle.sheet_checks.specs.Refusals.{Verdict, refuse, pass, check, offender, ragged, short, offPlate, badWeight, stranger, badGap, table}
 use Rattle.layout.specs.Promise.{Promise, ByTable}
-use Rattle.sheet_text.specs.declared.Taken.{Taken}
-use Rattle.sheet_text.specs.declared.Taken.the-variants.{Good, Bad}
-use Rattle.sheet_text.specs.declared.Row.{Row}
-use Rattle.sheet_text.specs.declared.Reading.{Reading}
-use Rattle.sheet_text.specs.declared.Reading.the-variants.{Sheet, Refused}
-use Rattle.sheet_text.specs.Lines.{lines, push, startsWith, lineFeed, carriageReturn}
-use Rattle.sheet_text.specs.Taking.{taken}
-use Rattle.sheet_text.specs.Texts.{Typed, nothingTyped, add, Outcome, bad-line, sheet, follow, readFrom, outcome, Lists, Done, roomFor, filled, refusedWith, countsOf, settled, judged, reading}
+use Rattle.text_rows.specs.declared.Taken.{Taken}
+use Rattle.text_rows.specs.declared.Taken.the-variants.{Good, Bad}
+use Rattle.text_rows.specs.declared.Row.{Row}
+use Rattle.text_reading.specs.declared.Reading.{Reading}
+use Rattle.text_reading.specs.declared.Reading.the-variants.{Sheet, Refused}
+use Rattle.text_rows.specs.Lines.{lines, push, startsWith, lineFeed, carriageReturn}
+use Rattle.text_rows.specs.Taking.{taken}
+use Rattle.text_reading.specs.Texts.{Typed, nothingTyped, add, Outcome, bad-line, sheet, follow, readFrom, outcome, Lists, Done, roomFor, filled, refusedWith, countsOf, settled, judged, reading}
 
 -- a refusal whose number and place are small
 abbrev pub Small : Refusal → Type 0

@@ -5,15 +5,15 @@ use mathlib.Core.List.{List}
 use native.Mathlib.Omega.{arith}
 use lib.ListN.{length, take}
 use lib.IntN.{ℤ}
-use Rattle.exact.specs.declared.Refusal.{Refusal}
-use Rattle.layout.specs.declared.Answer.{Answer}
-use Rattle.layout.specs.Promise.{Filled}
-use Rattle.sheet_text.specs.declared.Counts.{Counts}
-use Rattle.sheet_text.specs.declared.Reading.{Reading}
-use Rattle.sheet_text.specs.declared.Reading.the-variants.{Sheet, Refused}
-use Rattle.sheet_text.specs.Texts.{Lists, Done}
-use Rattle.sheet_text.specs.Parts.{ReadInto}
-use Rattle.sheet_text.specs.Listing.{listing, refusedRecord}
+use Rattle.ground.specs.declared.Refusal.{Refusal}
+use Rattle.ground.specs.declared.Answer.{Answer}
+use Rattle.ground.specs.Entries.{Filled}
+use Rattle.text_reading.specs.declared.Counts.{Counts}
+use Rattle.text_reading.specs.declared.Reading.{Reading}
+use Rattle.text_reading.specs.declared.Reading.the-variants.{Sheet, Refused}
+use Rattle.text_reading.specs.Texts.{Lists, Done}
+use Rattle.text_reading.specs.Parts.{ReadInto}
+use Rattle.text_listing.specs.Listing.{listing, refusedRecord}
 use Rattle.sheet_run.specs.Run.{zeros, blank, LaidOut, PrintedFor, Run}
 use Rattle.sheet_run.specs.Steps.{Holds, Answered, Printed, PrintedRead, lentOver}
 use Rattle.sheet_run.proofs.Refusals.{SmallReading, small-reading}

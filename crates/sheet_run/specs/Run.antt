@@ -4,14 +4,16 @@ use mathlib.Core.Path.{_≡_}
 use mathlib.Core.List.{List}
 use lib.ListN.{take, replicate}
 use lib.IntN.{ℤ, pos}
-use Rattle.layout.specs.declared.Answer.{Answer}
-use Rattle.layout.specs.Lent.{Read, Written, lists}
-use Rattle.layout.specs.Promise.{Promise, Filled}
-use Rattle.sheet_text.specs.declared.Counts.{Counts}
-use Rattle.sheet_text.specs.declared.Reading.{Reading}
-use Rattle.sheet_text.specs.declared.Reading.the-variants.{Sheet, Refused}
-use Rattle.sheet_text.specs.Texts.{Lists, reading}
-use Rattle.sheet_text.specs.Listing.{listing, refusedRecord}
+use Rattle.ground.specs.declared.Answer.{Answer}
+use Rattle.sheet_checks.specs.Lent.{Read, Written, lists}
+use Rattle.layout.specs.Promise.{Promise}
+use Rattle.ground.specs.Entries.{Filled}
+use Rattle.text_reading.specs.declared.Counts.{Counts}
+use Rattle.text_reading.specs.declared.Reading.{Reading}
+use Rattle.text_reading.specs.declared.Reading.the-variants.{Sheet, Refused}
+use Rattle.text_reading.specs.Texts.{Lists, reading}
+use Rattle.text_listing.specs.Listing.{listing, refusedRecord}
+use Rattle.ground.specs.Limits.{gapsMost, labelsMost}
 
 -- so many zeros
 abbrev pub zeros : ℕ → List ℤ
@@ -19,7 +21,7 @@ zeros n = replicate n (pos 0)
 
 -- the lists that a run reads into: zeros, with room for every sheet
 abbrev pub blank : Lists
-blank = record { wanted = zeros 48; weight = zeros 48; left = replicate 192 0; right = replicate 192 0; distance = zeros 192 }
+blank = record { wanted = zeros labelsMost; weight = zeros labelsMost; left = replicate gapsMost 0; right = replicate gapsMost 0; distance = zeros gapsMost }
 
 -- the sheet that was read: the first entries, one per label or gap
 abbrev pub sheetRead : Counts → Lists → Read
@@ -31,7 +33,7 @@ sheetRead c l = record {
 
 -- "The program starts from a carried record of zeros"; the other buffers have room for every sheet
 abbrev pub lent : Counts → Written
-lent c = record { place-num = zeros 48; place-den = zeros 48; mult-num = zeros 192; mult-den = zeros 192; ring = replicate 48 0; carried = replicate (c .gaps) 0 }
+lent c = record { place-num = zeros labelsMost; place-den = zeros labelsMost; mult-num = zeros gapsMost; mult-den = zeros gapsMost; ring = replicate labelsMost 0; carried = replicate (c .gaps) 0 }
 
 -- the listing of what a layout call that keeps its promise answers; it "prints neither multipliers nor rings"
 pub record LaidOut (c : Counts) (l : Lists) (printed : List ℕ) : Type 0 where

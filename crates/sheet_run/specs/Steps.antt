@@ -4,26 +4,28 @@ use mathlib.Core.Path.{_≡_}
 use mathlib.Core.List.{List}
 use lib.ListN.{length, take, replicate}
 use lib.IntN.{ℤ}
-use Rattle.layout.specs.declared.Answer.{Answer}
-use Rattle.layout.specs.Lent.{Written}
-use Rattle.layout.specs.Promise.{Promise, Filled}
-use Rattle.sheet_text.specs.declared.Counts.{Counts}
-use Rattle.sheet_text.specs.Texts.{Lists}
+use Rattle.ground.specs.declared.Answer.{Answer}
+use Rattle.sheet_checks.specs.Lent.{Written}
+use Rattle.layout.specs.Promise.{Promise}
+use Rattle.ground.specs.Entries.{Filled}
+use Rattle.text_reading.specs.declared.Counts.{Counts}
+use Rattle.text_reading.specs.Texts.{Lists}
 use Rattle.sheet_run.specs.Run.{zeros, sheetRead, LaidOut}
+use Rattle.ground.specs.Limits.{gapsMost, labelsMost}
 
 -- a sheet was read into these lists
 pub record Holds (c : Counts) (l : Lists) : Type 0 where
-  pub labels : c .labels ≤ 48
-  pub gaps : c .gaps ≤ 192
-  pub wanted : length (l .wanted) ≡ 48
-  pub weight : length (l .weight) ≡ 48
-  pub left : length (l .left) ≡ 192
-  pub right : length (l .right) ≡ 192
-  pub distance : length (l .distance) ≡ 192
+  pub labels : c .labels ≤ labelsMost
+  pub gaps : c .gaps ≤ gapsMost
+  pub wanted : length (l .wanted) ≡ labelsMost
+  pub weight : length (l .weight) ≡ labelsMost
+  pub left : length (l .left) ≡ gapsMost
+  pub right : length (l .right) ≡ gapsMost
+  pub distance : length (l .distance) ≡ gapsMost
 
 -- the buffers of a layout call, over these for the places
 abbrev pub lentOver : Counts → (nums dens : List ℤ) → Written
-lentOver c nums dens = record { place-num = nums; place-den = dens; mult-num = zeros 192; mult-den = zeros 192; ring = replicate 48 0; carried = replicate (c .gaps) 0 }
+lentOver c nums dens = record { place-num = nums; place-den = dens; mult-num = zeros gapsMost; mult-den = zeros gapsMost; ring = replicate labelsMost 0; carried = replicate (c .gaps) 0 }
 
 -- an answer that keeps the promise, with the places afterwards
 pub record Answered (c : Counts) (l : Lists) (nums dens : List ℤ) (a : Answer) (nums-after dens-after : List ℤ) : Type 0 where

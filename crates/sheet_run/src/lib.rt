@@ -1,17 +1,22 @@
 // One run of a station: a sheet's text in, its listing out.
-use layout::Answer;
+use ground::Answer;
+use ground::limits::GAPS;
+use ground::limits::LABELS;
 use layout::lists::lay_out;
-use sheet_text::Counts;
-use sheet_text::Listed;
-use sheet_text::Reading;
-use sheet_text::listing::write_listing;
-use sheet_text::read::read_sheet;
+use text_listing::Listed;
+use text_listing::listing::write_listing;
+use text_reading::Counts;
+use text_reading::Reading;
+use text_reading::read::read_sheet;
 ghost use mathlib.Core.Path.{_≡_};
 ghost use Prim.Native.Nat.{_≤_};
 ghost use lib.ListN.{length};
-ghost use Rattle.sheet_text.specs.Listing.{listing};
+ghost use Rattle.text_listing.specs.Listing.{listing};
 ghost use Rattle.sheet_run.specs.Steps.{Holds, Answered, Printed, PrintedRead};
 ghost use Rattle.sheet_run.specs.Run.{Run};
+ghost use Rattle.ground.specs.Limits.{labelsMost};
+ghost use Rattle.text_reading.specs.Texts.{listsLent, listsNow};
+ghost use Rattle.ground.specs.Views.{after, before};
 
 // Lays out the sheet that was read, from a carried record of zeros.
 fn lay_out_read(
@@ -24,15 +29,18 @@ fn lay_out_read(
     place_num: &mut [i64],
     place_den: &mut [i64],
 ) -> Answer
-    requires { ⌜ Holds counts (record { wanted = now wanted; weight = now weight; left = now left; right = now right; distance = now distance }) ⌝ }
-    ensures { λ r. ⌜ Answered counts (record { wanted = now (wanted .entry); weight = now (weight .entry); left = now (left .entry); right = now (right .entry); distance = now (distance .entry) }) (now («place_num» .entry)) (now («place_den» .entry)) r (now («place_num» .exit)) (now («place_den» .exit)) ⌝ }
+    requires { let l = listsNow wanted weight left right distance in
+        ⌜ Holds counts l ⌝ }
+    ensures { λ r.
+        let l = listsLent wanted weight left right distance in
+        ⌜ Answered counts (l .entry) (before «place_num») (before «place_den») r (after «place_num») (after «place_den») ⌝ }
 {
     let labels = counts.labels;
     let gaps = counts.gaps;
-    let mut carried = [0u8; 192];
-    let mut mult_num = [0i64; 192];
-    let mut mult_den = [0i64; 192];
-    let mut ring = [0usize; 48];
+    let mut carried = [0u8; GAPS];
+    let mut mult_num = [0i64; GAPS];
+    let mut mult_den = [0i64; GAPS];
+    let mut ring = [0usize; LABELS];
     lay_out(
         &wanted[..labels],
         &weight[..labels],
@@ -50,8 +58,10 @@ fn lay_out_read(
 
 // Prints an answer with the places of its labels, and tells how many bytes.
 fn print(answer: Answer, place_num: &[i64], place_den: &[i64], out: &mut [u8; 3072]) -> usize
-    requires { ⌜ (length (now «place_num») ≤ 48) × (length (now «place_den») ≡ length (now «place_num»)) × (length (listing answer (now «place_num») (now «place_den»)) ≤ 3072) ⌝ }
-    ensures { λ r. ⌜ Printed (listing answer (now («place_num» .entry)) (now («place_den» .entry))) (now (out .entry)) r (now (out .exit)) ⌝ }
+    requires { ⌜ (length (now «place_num») ≤ labelsMost)
+        × (length (now «place_den») ≡ length (now «place_num»))
+        × (length (listing answer (now «place_num») (now «place_den»)) ≤ 3072) ⌝ }
+    ensures { λ r. ⌜ Printed (listing answer (before «place_num») (before «place_den»)) (before out) r (after out) ⌝ }
 {
     let Listed::Written(size) = write_listing(answer, place_num, place_den, out) else {
         return 0;
@@ -69,12 +79,15 @@ fn print_read(
     distance: &[i64],
     out: &mut [u8; 3072],
 ) -> usize
-    requires { ⌜ Holds counts (record { wanted = now wanted; weight = now weight; left = now left; right = now right; distance = now distance }) ⌝ }
-    ensures { λ r. ⌜ PrintedRead counts (record { wanted = now (wanted .entry); weight = now (weight .entry); left = now (left .entry); right = now (right .entry); distance = now (distance .entry) }) (now (out .entry)) r (now (out .exit)) ⌝ }
+    requires { let l = listsNow wanted weight left right distance in
+        ⌜ Holds counts l ⌝ }
+    ensures { λ r.
+        let l = listsLent wanted weight left right distance in
+        ⌜ PrintedRead counts (l .entry) (before out) r (after out) ⌝ }
 {
     let labels = counts.labels;
-    let mut place_num = [0i64; 48];
-    let mut place_den = [0i64; 48];
+    let mut place_num = [0i64; LABELS];
+    let mut place_den = [0i64; LABELS];
     let answer = lay_out_read(
         counts,
         wanted,
@@ -90,13 +103,13 @@ fn print_read(
 
 // Prints what a station prints for a text to the front of the buffer, and tells how many bytes. Any text may be lent.
 pub fn run_sheet(text: &[u8], out: &mut [u8; 3072]) -> usize
-    ensures { λ r. ⌜ Run (now (text .entry)) (now (out .entry)) r (now (out .exit)) ⌝ }
+    ensures { λ r. ⌜ Run (before text) (before out) r (after out) ⌝ }
 {
-    let mut wanted = [0i64; 48];
-    let mut weight = [0i64; 48];
-    let mut left = [0usize; 192];
-    let mut right = [0usize; 192];
-    let mut distance = [0i64; 192];
+    let mut wanted = [0i64; LABELS];
+    let mut weight = [0i64; LABELS];
+    let mut left = [0usize; GAPS];
+    let mut right = [0usize; GAPS];
+    let mut distance = [0i64; GAPS];
     let found = read_sheet(
         text,
         &mut wanted,

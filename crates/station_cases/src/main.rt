@@ -3,10 +3,11 @@
 use sheet_run::run_sheet;
 ghost use Prim.Native.Nat.{_≤_};
 ghost use lib.ListN.{length};
+ghost use Rattle.ground.specs.Views.{before};
 
 // Where the first line ends.
 fn after_name(entry: &[u8]) -> usize
-    ensures { λ r. ⌜ r ≤ length (now (entry .entry)) ⌝ }
+    ensures { λ r. ⌜ r ≤ length (before entry) ⌝ }
 {
     let mut k: usize = 0;
     while k < entry.len() {

@@ -7,10 +7,10 @@ use ghost.Atoms.{Atoms, sem}
 use types.Kit.{Given}
 use contract.Lifetimes.{Lfts}
 use denote.RattleType.{Denots}
-use denote.Exit.{Kept, left}
+use denote.Exit.{left}
 use denote.Signature.{Slot, typesAt}
 use denote.Triple.End.{Kepts, Fins}
-use denote.Triple.Walked.{Stay, Stays, fitsOf, AllGo}
+use denote.Triple.Walked.{Stays, fitsOf, AllGo}
 
 module _ {n : ℕ} where
   abbrev pub handed-on : (ss : List (Slot n)) (ks : Kepts ss) → Stays ss ks

@@ -1,6 +1,6 @@
 -- What is promised of two layout calls, one of each form (document 01, "What a station lends"): "the pair may be one of each".
-use Rattle.layout.specs.declared.Answer.{Answer}
-use Rattle.layout.specs.Lent.{Read, Written}
+use Rattle.ground.specs.declared.Answer.{Answer}
+use Rattle.sheet_checks.specs.Lent.{Read, Written}
 use Rattle.layout.specs.Promise.{Promise}
 use Rattle.layout.specs.Demand3.{SameSheets, Demand3}
 

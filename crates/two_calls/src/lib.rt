@@ -1,9 +1,9 @@
 // Makes a layout call of each form, and promises demand 3 of what the two leave.
-use layout::Answer;
-use layout::GapRecord;
+use ground::Answer;
+use ground::GapRecord;
 use layout::lists::lay_out;
 use records::lay_out_records;
-ghost use Rattle.layout.specs.Lent.{lists, records};
+ghost use Rattle.sheet_checks.specs.Lent.{recordsLent, roomLent, sheetLent};
 ghost use Rattle.two_calls.specs.TwoCalls.{BothPromised};
 
 // The answers of the two calls.
@@ -35,7 +35,12 @@ pub fn lay_out_both(
     second_mult_den: &mut [i64],
     second_ring: &mut [usize],
 ) -> Both
-    ensures { λ r. ⌜ BothPromised (record { wanted = now (wanted .entry); weight = now (weight .entry); gaps = lists (now (left .entry)) (now (right .entry)) (now (distance .entry)) }) (record { «place-num» = now («place_num» .entry); «place-den» = now («place_den» .entry); «mult-num» = now («mult_num» .entry); «mult-den» = now («mult_den» .entry); ring = now (ring .entry); carried = now (carried .entry) }) (r .first) (record { «place-num» = now («place_num» .exit); «place-den» = now («place_den» .exit); «mult-num» = now («mult_num» .exit); «mult-den» = now («mult_den» .exit); ring = now (ring .exit); carried = now (carried .exit) }) (record { wanted = now («second_wanted» .entry); weight = now («second_weight» .entry); gaps = records (now (gaps .entry)) }) (record { «place-num» = now («second_place_num» .entry); «place-den» = now («second_place_den» .entry); «mult-num» = now («second_mult_num» .entry); «mult-den» = now («second_mult_den» .entry); ring = now («second_ring» .entry); carried = now («second_carried» .entry) }) (r .second) (record { «place-num» = now («second_place_num» .exit); «place-den» = now («second_place_den» .exit); «mult-num» = now («second_mult_num» .exit); «mult-den» = now («second_mult_den» .exit); ring = now («second_ring» .exit); carried = now («second_carried» .exit) }) ⌝ }
+    ensures { λ r.
+        let room = roomLent carried «place_num» «place_den» «mult_num» «mult_den» ring in
+        let other = roomLent «second_carried» «second_place_num» «second_place_den» «second_mult_num» «second_mult_den» «second_ring» in
+        let sheet = sheetLent wanted weight left right distance in
+        let second = recordsLent «second_wanted» «second_weight» gaps in
+        ⌜ BothPromised sheet (room .entry) (r .first) (room .exit) second (other .entry) (r .second) (other .exit) ⌝ }
 {
     let first = lay_out(
         wanted,

@@ -2,8 +2,8 @@
 use native.Mathlib.Omega.{arith}
 use lib.IntN.{pos}
 use borrow.Author.Needs.{needs}
-use Rattle.exact.proofs.Whole.{le-parts, parts-lt}
-use Rattle.exact.proofs.Quotient.{kept, le-of-test}
+use Rattle.algebra.proofs.Whole.{le-parts, parts-lt}
+use Rattle.algebra.proofs.Quotient.{kept, le-of-test}
 use Rattle.exact_vectors.proofs.show_lowest.Statement.{statement}
 use Rattle.exact_vectors.proofs.show_lowest.Tie as tie
 

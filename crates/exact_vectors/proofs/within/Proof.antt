@@ -8,8 +8,8 @@ use lib.IntN.{ℤ, pos, natAbs}
 use lib.Signed.{_≤ℤ_}
 use mir.Syntax.{w64}
 use mir.ValLaws.{toZ-ofZ}
-use Rattle.exact.proofs.Whole.{le-parts, parts-lt}
-use Rattle.exact.proofs.Quotient.{kept, le-of-test}
+use Rattle.algebra.proofs.Whole.{le-parts, parts-lt}
+use Rattle.algebra.proofs.Quotient.{kept, le-of-test}
 use Rattle.exact_vectors.proofs.within.Statement.{statement}
 use Rattle.exact_vectors.proofs.within.Tie as tie
 

@@ -45,10 +45,10 @@ use denote.Triple.Spec.{Meets, tripleOf}
 use denote.Triple.Table.{entered}
 use denote.Triple.Walked.{says, needs, Stays, stay-none-slice, stay-none, walkOf, goes-none-slice, goes-none, Walks, ends-at, walked, walk-meets}
 use denote.Exit.{yes}
-use Rattle.layout.specs.declared.GapRecord.{GapRecord}
-use Rattle.layout.specs.Lent.{noRecord}
-use Rattle.layout.proofs.GapRecord as T
-use Rattle.layout.proofs.GapRecord.Laws as T′
+use Rattle.ground.specs.declared.GapRecord.{GapRecord}
+use Rattle.ground.specs.Entries.{noRecord}
+use Rattle.ground.proofs.GapRecord as T
+use Rattle.ground.proofs.GapRecord.Laws as T′
 use Rattle.records.specs.Records.{copied}
 use Rattle.records.proofs.Kept.{copied-none, copied-more, copied-length}
 use Rattle.records.proofs.Rows.{repeated, row-out, row-in}

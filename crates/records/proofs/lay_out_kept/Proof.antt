@@ -7,7 +7,7 @@ use lib.Seq.{length-take-le}
 use denote.Ref.{now}
 use borrow.Author.Tests.{ltb-true, ltb-false, lt-ltb, le-ltb}
 use borrow.Author.Needs.{needs}
-use Rattle.layout.specs.Lent.{Written}
+use Rattle.sheet_checks.specs.Lent.{Written}
 use Rattle.records.proofs.Kept.{promise-kept, promise-long}
 use Rattle.records.proofs.lay_out_kept.Statement.{statement}
 use Rattle.records.proofs.lay_out_kept.Tie as tie

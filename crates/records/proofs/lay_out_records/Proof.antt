@@ -41,13 +41,13 @@ use denote.Triple.Table.{entered, cited}
 use denote.Triple.Walked.{says, Stays, stay-none-slice, gave-slice, walkOf, goes-none-slice, goes-gave-slice, Walks, ends-at, walked, walk-meets}
 use denote.Exit.{yes}
 use denote.Signature.{plain}
-use Rattle.layout.specs.declared.GapRecord.{GapRecord}
-use Rattle.layout.specs.declared.Answer.{Answer}
-use Rattle.layout.specs.Lent.{Written}
-use Rattle.layout.proofs.GapRecord as T
-use Rattle.layout.proofs.GapRecord.Laws as T′
-use Rattle.layout.proofs.Answer as N
-use Rattle.layout.proofs.Answer.Laws as N′
+use Rattle.ground.specs.declared.GapRecord.{GapRecord}
+use Rattle.ground.specs.declared.Answer.{Answer}
+use Rattle.sheet_checks.specs.Lent.{Written}
+use Rattle.ground.proofs.GapRecord as T
+use Rattle.ground.proofs.GapRecord.Laws as T′
+use Rattle.ground.proofs.Answer as N
+use Rattle.ground.proofs.Answer.Laws as N′
 use Rattle.records.specs.Records.{keptOf, copied, Owed}
 use Rattle.records.proofs.Kept.{kept-most, copied-keeps}
 use Rattle.records.proofs.kept_count as kept-count

@@ -13,17 +13,17 @@ Inv-loop left₀ right₀ distance₀ kept k₀ left right distance k = (k ≤ 1
 abbrev μ-loop : tie.MeasureT-loop
 μ-loop left₀ right₀ distance₀ kept k₀ left right distance k = 192 - k
 
-whole-ends-requires : tie.Need-whole-ends-requires Inv-loop μ-loop
-whole-ends-requires c κs = tt
+measured-gap-indices-requires : tie.Need-measured-gap-indices-requires Inv-loop μ-loop
+measured-gap-indices-requires c κs = tt
 
-whole-ends-requires-2 : tie.Need-whole-ends-requires-2 Inv-loop μ-loop
-whole-ends-requires-2 c κs = tt
+measured-gap-indices-requires-2 : tie.Need-measured-gap-indices-requires-2 Inv-loop μ-loop
+measured-gap-indices-requires-2 c κs = tt
 
-whole-distances-requires : tie.Need-whole-distances-requires Inv-loop μ-loop
-whole-distances-requires c κs = tt
+measured-gaps-requires : tie.Need-measured-gaps-requires Inv-loop μ-loop
+measured-gaps-requires c κs = tt
 
 loop-holds : tie.Need-loop-holds Inv-loop μ-loop
-loop-holds c = (omega arith, apart-start _ (c .before .before .before .before .whole-ends .ensures) (c .before .before .whole-ends2 .ensures) (c .whole-distances .ensures))
+loop-holds c = (omega arith, apart-start _ (c .before .before .before .before .measured-gap-indices .ensures) (c .before .before .measured-gap-indices2 .ensures) (c .measured-gaps .ensures))
 
 mul-gap : tie.Need-mul-gap Inv-loop μ-loop
 mul-gap c = omega arith
@@ -67,9 +67,9 @@ take-apart-spec =
     (tie.spec
     Inv-loop
     μ-loop
-    whole-ends-requires
-    whole-ends-requires-2
-    whole-distances-requires
+    measured-gap-indices-requires
+    measured-gap-indices-requires-2
+    measured-gaps-requires
     loop-holds
     mul-gap
     array-copy-out-gap

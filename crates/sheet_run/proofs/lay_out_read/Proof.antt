@@ -7,9 +7,9 @@ use native.Mathlib.Omega.{arith}
 use denote.Ref.{now}
 use lib.ListN.{replicate}
 use lib.Seq.{length-take-le}
-use Rattle.layout.specs.Lent.{Written}
+use Rattle.sheet_checks.specs.Lent.{Written}
 use Rattle.layout.specs.Promise.{Promise}
-use Rattle.sheet_text.specs.Texts.{Lists}
+use Rattle.text_reading.specs.Texts.{Lists}
 use Rattle.sheet_run.specs.Run.{zeros, sheetRead}
 use Rattle.sheet_run.proofs.Printing.{take-replicate}
 use Rattle.sheet_run.proofs.lay_out_read.Statement.{statement}

@@ -7,7 +7,7 @@ use denote.Ref.{now}
 use lib.ListN.{length, take}
 use lib.Seq.{length-take-le}
 use lib.IntN.{ℤ}
-use Rattle.sheet_text.specs.Texts.{Lists}
+use Rattle.text_reading.specs.Texts.{Lists}
 use Rattle.sheet_run.proofs.Runs.{answered-most, printed-read}
 use Rattle.sheet_run.proofs.print_read.Statement.{statement}
 use Rattle.sheet_run.proofs.print_read.Tie as tie

@@ -3,7 +3,7 @@ use mathlib.Core.Path.{refl}
 use borrow.Author.Needs.{needs}
 use native.Mathlib.Omega.{arith}
 use denote.Ref.{now}
-use Rattle.sheet_text.specs.Texts.{Lists}
+use Rattle.text_reading.specs.Texts.{Lists}
 use Rattle.sheet_run.proofs.Runs.{refusal-most, within-limits, run-refused, run-read}
 use Rattle.sheet_run.proofs.run_sheet.Statement.{statement}
 use Rattle.sheet_run.proofs.run_sheet.Tie as tie

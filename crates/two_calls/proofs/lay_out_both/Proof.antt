@@ -37,13 +37,13 @@ use denote.Triple.Call.{calls-at}
 use denote.Triple.Clauses.{ensured, lasts, Lasts}
 use denote.Triple.Table.{entered, cited}
 use denote.Triple.Walked.{says, Stays, walkOf, Walks, ends-at, walked, walk-meets}
-use Rattle.layout.specs.declared.Answer.{Answer}
-use Rattle.layout.specs.Lent.{Written, lists, records}
+use Rattle.ground.specs.declared.Answer.{Answer}
+use Rattle.sheet_checks.specs.Lent.{Written, lists, records}
 use Rattle.layout.specs.Promise.{Promise}
 use Rattle.layout.proofs.Demand3.{demand-3}
-use Rattle.layout.proofs.GapRecord as G
-use Rattle.layout.proofs.Answer as N
-use Rattle.layout.proofs.Answer.Laws as N′
+use Rattle.ground.proofs.GapRecord as G
+use Rattle.ground.proofs.Answer as N
+use Rattle.ground.proofs.Answer.Laws as N′
 use Rattle.layout.proofs.lists.lay_out as lay-out
 use Rattle.layout.proofs.lists.lay_out.Symbol as lay-out-def
 use Rattle.layout.proofs.lists.lay_out.Symbol.{name as #layout·lists·lay-out}

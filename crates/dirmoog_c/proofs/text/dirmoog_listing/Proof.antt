@@ -1,8 +1,8 @@
 -- `dirmoog_c::text::dirmoog_listing` meets its contract: the listing is that of the answer that the number and the place tell.
 use borrow.Author.Needs.{needs}
 use mathlib.Core.Path.{ap, _∙_}
-use Rattle.layout.specs.declared.Answer.{Answer}
-use Rattle.sheet_text.specs.Listing.{Listing, listedIn}
+use Rattle.ground.specs.declared.Answer.{Answer}
+use Rattle.text_listing.specs.Listing.{Listing, listedIn}
 use Rattle.dirmoog_c.specs.Texted.{listedNumber, listedBytes}
 use Rattle.dirmoog_c.proofs.Telling.{told-at}
 use Rattle.dirmoog_c.proofs.text.dirmoog_listing.Statement.{statement}

@@ -1,7 +1,7 @@
 -- `dirmoog_c::text::dirmoog_read` meets its contract: the reading is that of the text, and what is told is told of it.
 use borrow.Author.Needs.{needs}
 use mathlib.Core.Path.{ap, _∙_}
-use Rattle.sheet_text.specs.Texts.{Done}
+use Rattle.text_reading.specs.Texts.{Done}
 use Rattle.dirmoog_c.specs.Texted.{readNumber, readFirst, readSecond}
 use Rattle.dirmoog_c.proofs.Telling.{told-both}
 use Rattle.dirmoog_c.proofs.text.dirmoog_read.Statement.{statement}

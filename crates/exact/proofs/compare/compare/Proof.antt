@@ -4,7 +4,7 @@ use borrow.Author.Needs.{needs}
 use mir.Syntax.{w64}
 use mir.Val.{toZ, ofZ}
 use Rattle.exact.specs.Divide.{orderZ}
-use Rattle.exact.proofs.Quotient.{quot-plain, quot-kept, division-asks, product-asks, product-kept, order-by-quot, order-by-rem}
+use Rattle.exact.proofs.Ordering.{quot-plain, quot-kept, division-asks, product-asks, product-kept, order-by-quot, order-by-rem}
 use Rattle.exact.proofs.compare.compare.Statement.{statement}
 use Rattle.exact.proofs.compare.compare.Tie as tie
 

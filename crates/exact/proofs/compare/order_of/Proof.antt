@@ -3,7 +3,8 @@ use mathlib.Core.Path.{_≡_, _∙_, ap₂}
 use mir.Syntax.{w64}
 use mir.ValLaws.{toZ-ofZ}
 use Rattle.exact.specs.Divide.{orderZ}
-use Rattle.exact.proofs.Quotient.{kept, lt-of-test, le-of-test, order-below, order-above, order-same}
+use Rattle.algebra.proofs.Quotient.{kept, lt-of-test, le-of-test}
+use Rattle.exact.proofs.Ordering.{order-below, order-above, order-same}
 use Rattle.exact.proofs.compare.order_of.Statement.{statement}
 use Rattle.exact.proofs.compare.order_of.Tie as tie
 

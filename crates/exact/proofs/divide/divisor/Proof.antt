@@ -3,14 +3,14 @@
 use mathlib.Core.Path.{_≡_, refl, sym, _∙_, ap}
 use Prim.Native.Nat.{_<_, _^_}
 use native.Mathlib.Omega.{arith}
-use native.Mathlib.Nat.{mod-lt}
 use lib.IntN.{natAbs}
 use lib.Signed.{remZ}
 use mir.Syntax.{w64}
 use mir.Val.{SFits, toZ, ofZ}
 use mir.ValLaws.{toZ-ofZ, toZ-pos}
 use borrow.Author.Needs.{needs}
-use Rattle.exact.proofs.Divisor.{gcd-bounds, is-divisor, natAbs-rem, natAbs-above, natAbs-of-fits, same-bits}
+use Rattle.exact.proofs.Divisor.{gcd-bounds, is-divisor}
+use Rattle.algebra.proofs.Quotient.{natAbs-above, natAbs-of-fits, same-bits}
 use Rattle.exact.proofs.divide.divisor.Statement.{statement}
 use Rattle.exact.proofs.divide.divisor.Tie as tie
 
@@ -43,14 +43,10 @@ returns c =
     (s .pre .1, sym (same-bits (s .fits .den) den-fits (c .before .before .before .if1 .taken)), sym (same-bits (rest-fits k) before-fits (c .if2 .taken)) ∙ rest-is k)
 
 magnitude-requires : tie.Need-magnitude-requires
-magnitude-requires c κs = let s = c .before .before .before .before in rw (read-den s) (den-below s)
+magnitude-requires c κs = search needs
 
 magnitude-requires-2 : tie.Need-magnitude-requires-2
-magnitude-requires-2 c κs =
-    let k = c .before .before .before .before in
-    let s = k .before in
-    rw (read-rest k, rest-is k, natAbs-rem (s .args .num) (s .args .den))
-    (omega (arith, mod-lt (natAbs (s .args .num)) (natAbs-above (s .pre .0)), den-below s))
+magnitude-requires-2 c κs = search needs
 
 gcd-requires : tie.Need-gcd-requires
 gcd-requires c κs = search needs

@@ -12,8 +12,9 @@ use borrow.Author.Needs.{needs}
 use Rattle.exact.specs.Divide.{GreatestCommonDivisor}
 use Rattle.exact.specs.Fraction.{Reduced}
 use Rattle.exact.specs.declared.Fraction.{Fraction}
-use Rattle.exact.proofs.Whole.{one-*ℤ}
-use Rattle.exact.proofs.Divisor.{quot-exact, reduced-by, gcd-rem, same-bits}
+use Rattle.algebra.proofs.Whole.{one-*ℤ}
+use Rattle.algebra.proofs.Quotient.{quot-exact, same-bits}
+use Rattle.exact.proofs.Divisor.{reduced-by, gcd-rem}
 use Rattle.exact.proofs.divide.lowest_by.Statement.{statement}
 use Rattle.exact.proofs.divide.lowest_by.Tie as tie
 

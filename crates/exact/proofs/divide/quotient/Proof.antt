@@ -1,5 +1,5 @@
 -- `exact::divide::quotient` meets its contract: both numbers fit, and the second is above zero. Assumes nothing.
-use Rattle.exact.proofs.Divisor.{division-asks, quot-gives}
+use Rattle.algebra.proofs.Quotient.{division-asks, quot-gives}
 use Rattle.exact.proofs.divide.quotient.Statement.{statement}
 use Rattle.exact.proofs.divide.quotient.Tie as tie
 

@@ -1,5 +1,5 @@
 -- `exact::divide::remainder` meets its contract: both numbers fit, and the second is above zero. Assumes nothing.
-use Rattle.exact.proofs.Divisor.{division-asks, rem-gives}
+use Rattle.algebra.proofs.Quotient.{division-asks, rem-gives}
 use Rattle.exact.proofs.divide.remainder.Statement.{statement}
 use Rattle.exact.proofs.divide.remainder.Tie as tie
 

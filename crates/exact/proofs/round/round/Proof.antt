@@ -5,7 +5,7 @@ use mir.Syntax.{w64}
 use mir.ValLaws.{toZ-ofZ}
 use Rattle.exact.specs.Round.{rounded}
 use Rattle.exact.specs.declared.Rounded.the-variants.{Whole}
-use Rattle.exact.proofs.Quotient.{kept, lt-of-test, le-of-test}
+use Rattle.algebra.proofs.Quotient.{kept, lt-of-test, le-of-test}
 use Rattle.exact.proofs.Rounding.{within-places, in-range, refuses-den-low, refuses-den-high, refuses-num-low, refuses-num-high}
 use Rattle.exact.proofs.round.round.Statement.{statement}
 use Rattle.exact.proofs.round.round.Tie as tie

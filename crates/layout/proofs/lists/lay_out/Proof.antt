@@ -2,9 +2,9 @@
 use mathlib.Core.Path.{_≡_, refl, sym, _∙_, ap}
 use denote.Ref.{now}
 use borrow.Author.Needs.{needs}
-use Rattle.layout.specs.Lent.{Read, Written}
-use Rattle.layout.specs.Refusals.{table}
-use Rattle.layout.specs.Checks.{verdictOf}
+use Rattle.sheet_checks.specs.Lent.{Read, Written}
+use Rattle.sheet_checks.specs.Refusals.{table}
+use Rattle.sheet_checks.specs.Checks.{verdictOf}
 use Rattle.layout.proofs.Judging.{readOf, refused-kept, judged-kept}
 use Rattle.layout.proofs.lists.lay_out.Statement.{statement}
 use Rattle.layout.proofs.lists.lay_out.Tie as tie

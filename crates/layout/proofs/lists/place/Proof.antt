@@ -4,8 +4,8 @@ use Prim.Native.Nat.{_≤_}
 use lib.ListN.{length, replicate}
 use denote.Ref.{now}
 use borrow.Author.Needs.{needs}
-use Rattle.projection.specs.Project.{Buffers}
-use Rattle.layout.specs.Lent.{Written}
+use Rattle.core_project.specs.Project.{Buffers}
+use Rattle.sheet_checks.specs.Lent.{Written}
 use Rattle.layout.proofs.Judging.{few-gaps, kinds-length, passed-ready, judged}
 use Rattle.layout.proofs.lists.place.Statement.{statement}
 use Rattle.layout.proofs.lists.place.Tie as tie

@@ -1,0 +1,4 @@
+pub mod Whole
+pub mod Ring
+pub mod Sum
+pub mod Quotient

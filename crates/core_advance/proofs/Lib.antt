@@ -1,0 +1,3 @@
+pub mod EndBlock
+pub mod SideLaws
+pub mod AdvanceLaws

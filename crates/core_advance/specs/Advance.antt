@@ -1,0 +1,46 @@
+-- What an advance comes to, said of the states of an outer step.
+use Prim.Native.Nat.{ℕ, _<_}
+use mathlib.Core.Path.{_≡_}
+use mathlib.Core.Logic.{_≢_}
+use mathlib.Core.Bool.{Bool, true, false}
+use mathlib.Core.List.{List}
+use lib.IntN.{ℤ}
+use Rattle.least_move.specs.Sheet.{at-least}
+use Rattle.least_move.specs.States.{Pushed, Reached, Without, With, Pushes}
+use Rattle.core_forest.specs.Tree.{Tree}
+use Rattle.ground.specs.Entries.{nat}
+use Rattle.core_breaking.specs.declared.Outcome.{Outcome}
+use Rattle.core_breaking.specs.declared.Outcome.the-variants.{Dropped, Reached as reached, Ring}
+use Rattle.core_forest.specs.Problem.{Problem, graphOf, marksOf, numbersOf, IsForest}
+
+abbrev pub PushedBy : Problem → (ℕ → Bool) → ℕ → ℕ → ℤ → (num den : ℕ → ℤ) → Type 0
+PushedBy p F a b h num den = Pushed (numbersOf p) F a b h num den
+
+-- a marked gap is dropped: its multiplier is zero, and the gap still does not hold
+pub record GapDropped (p : Problem) (mark : List ℕ) (a b : ℕ) (h : ℤ) (e : ℕ) : Type 0 where
+  pub gap-in : e < p .gaps
+  pub marked : nat mark e ≡ 1
+  pub pushed : (num den : ℕ → ℤ) → IsForest p mark → PushedBy p (marksOf mark) a b h num den → (F : ℕ → Bool) → Without (p .gaps) (marksOf mark) e F → PushedBy p F a b h num den
+
+-- the gap becomes tight and can be marked: its ends stand in different blocks
+pub record GapReached (p : Problem) (mark : List ℕ) (a b : ℕ) (h : ℤ) : Type 0 where
+  pub block : ℕ → Bool
+  pub from : block a ≡ true
+  pub to : block b ≡ false
+  pub inside : (e : ℕ) → e < p .gaps → marksOf mark e ≡ true → block (nat (p .left) e) ≡ block (nat (p .right) e)
+  pub settled : (num den : ℕ → ℤ) → IsForest p mark → PushedBy p (marksOf mark) a b h num den → (c : ℕ) → c < p .gaps → Pushes (numbersOf p) c a b h → marksOf mark c ≡ false → (F : ℕ → Bool) → With (p .gaps) (marksOf mark) c F → Reached (numbersOf p) F num den
+
+-- nothing gives way: the way from b up to a has no gap of the kind at least that points away from a
+pub record Blocked (p : Problem) (mark : List ℕ) (a b : ℕ) (at queue via up : List ℕ) (off : List ℤ) : Type 0 where
+  pub count : ℕ
+  pub tree : Tree (graphOf p mark) a count at queue via up off
+  pub joined : 0 < nat at b
+  pub onWay : ℕ → Bool
+  pub starts : onWay b ≡ true
+  pub climbs : (k : ℕ) → 0 < k → k < count → onWay (nat queue k) ≡ true → onWay (nat up (nat queue k)) ≡ true
+  pub points : (k : ℕ) → 0 < k → k < count → onWay (nat queue k) ≡ true → (numbersOf p) .kind (nat via (nat queue k)) ≡ at-least → nat (p .right) (nat via (nat queue k)) ≢ nat queue k
+
+abbrev pub Gives : Problem → List ℕ → ℕ → ℕ → ℤ → Outcome → (at queue via up : List ℕ) (off : List ℤ) → Type 0
+Gives p mark a b h (Dropped e) at queue via up off = GapDropped p mark a b h (e .0)
+Gives p mark a b h reached at queue via up off = GapReached p mark a b h
+Gives p mark a b h Ring at queue via up off = Blocked p mark a b at queue via up off

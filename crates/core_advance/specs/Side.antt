@@ -1,0 +1,37 @@
+-- What is found of the block at one end of a pushing gap.
+use Prim.Native.Nat.{ℕ}
+use mathlib.Core.Path.{_≡_}
+use mathlib.Core.Bool.{cond}
+use mathlib.Core.List.{List}
+use lib.Dec.{ltb}
+use lib.ListN.{length}
+use lib.IntN.{ℤ, _*ℤ_}
+use Rattle.core_forest.specs.Tree.{Tree}
+use Rattle.ground.specs.Entries.{nat, int}
+use Rattle.core_elimination.specs.Block.{weightSum, wantedSum, Given, surplusAt, onlyAt}
+use Rattle.core_elimination.specs.Eliminate.{eliminated}
+use Rattle.core_breaking.specs.declared.Side.{Side}
+use Rattle.core_breaking.specs.Breaking.{candidateOf, leastBreak}
+use Rattle.core_forest.specs.Problem.{Problem, graphOf}
+use Rattle.ground.specs.Limits.{labelsMost}
+
+-- the shares that are eliminated beside the surplus: all to the other end where it stands in the block, else the weights
+abbrev pub shareOf : Problem → Side → ℕ → ℕ → ℤ
+shareOf p r other x = cond (r .joined) (onlyAt other (r .sums .weight) x) (int (p .weight) x)
+
+pub record SideFound (p : Problem) (mark : List ℕ) (root other : ℕ) (sign : ℤ) (r : Side) (at queue via up : List ℕ) (off held share : List ℤ) : Type 0 where
+  pub tree : Tree (graphOf p mark) root (r .count) at queue via up off
+  pub weight : r .sums .weight ≡ weightSum (r .count) queue (p .weight)
+  pub wanted : r .sums .wanted ≡ wantedSum (r .count) queue off (p .wanted) (p .weight)
+  pub joined : r .joined ≡ ltb 0 (nat at other)
+  pub held₀ : List ℤ
+  pub held₁ : List ℤ
+  pub surplus : Given (r .count) queue (λ x. sign *ℤ surplusAt (r .sums) off (p .wanted) (p .weight) x) held₀ held₁
+  pub held-size : length held₁ ≡ labelsMost
+  pub held-is : held ≡ eliminated (r .count) queue up held₁
+  pub share₀ : List ℤ
+  pub share₁ : List ℤ
+  pub shares : Given (r .count) queue (shareOf p r other) share₀ share₁
+  pub share-size : length share₁ ≡ labelsMost
+  pub share-is : share ≡ eliminated (r .count) queue up share₁
+  pub first : r .first ≡ leastBreak (r .count) (candidateOf sign queue via (p .left) (p .right) (p .kind) held share)

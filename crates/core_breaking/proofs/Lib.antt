@@ -1,0 +1,2 @@
+pub mod BreakingPoints
+pub mod DecideLaws

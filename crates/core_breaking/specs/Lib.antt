@@ -1,0 +1,2 @@
+pub mod Breaking
+pub mod Decide

@@ -1,0 +1,3 @@
+pub mod Growth
+pub mod Chains
+pub mod GapKinds

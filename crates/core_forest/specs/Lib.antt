@@ -1,0 +1,4 @@
+pub mod Tree
+pub mod Search
+pub mod Chain
+pub mod Problem

@@ -1,0 +1,72 @@
+-- Passes that write the front of a list: what holds after k turns, one turn more, and the end.
+use Prim.Native.Nat.{ℕ, _+_, _≤_, _<_}
+use native.Mathlib.Omega.{arith}
+use borrow.Author.Count.{below-more}
+use mathlib.Core.Path.{_≡_, refl, sym, ap, _∙_}
+use mathlib.Core.List.{List}
+use lib.ListN.{length, getD, set, drop, length-set}
+use lib.Seq.{drop-set-lt, drop-drop, getD-set-same, getD-set-other}
+use native.Mathlib.Nat.{eq-one-of-dvd-one}
+use lib.IntN.{ℤ, pos, *ℤ-comm, *ℤ-zero}
+use lib.Signed.{_<ℤ_}
+use Rattle.algebra.proofs.Whole.{parts-lt}
+use Rattle.exact.specs.declared.Fraction.{Fraction}
+use Rattle.exact.specs.Fraction.{Reduced}
+use Rattle.core_project.specs.Core.{fraction}
+use Rattle.ground.specs.Entries.{Filled}
+use Rattle.core_project.specs.Project.{FrontWritten, FractionsWritten}
+
+module _ {A : Type 0} where
+  filled-start : (before : List A) → Filled 0 before before
+  filled-start before = record { size = refl; beyond = refl }
+
+  -- a store at k: what stays from k on stays from k + 1 on
+  pub filled-turn : (k : ℕ) (before after : List A) (v : A) → Filled k before after → Filled (k + 1) before (set after k v)
+  filled-turn k before after v f =
+      record { size = simp length-set (f .size); beyond = drop-set-lt (k + 1) after k v (omega arith) ∙ (sym (drop-drop 1 k after) ∙ (ap (drop 1) (f .beyond) ∙ drop-drop 1 k before)) }
+
+  -- an entry that a store at k leaves
+  stays : (l : List A) (k j : ℕ) (v none : A) → j < k → getD (set l k v) j none ≡ getD l j none
+  stays l k j v none h = getD-set-other l k j v none (λ (e : j ≡ k). omega arith)
+
+  -- The pass that copies: after k turns the first k entries are the source's.
+  pub copied-start : (from before : List A) (none : A) → FrontWritten 0 from before before none
+  copied-start from before none = record { filled = filled-start before; written = λ j h. absurd (omega arith) }
+
+  pub copied-turn : {k : ℕ} {from before after : List A} {none : A} → FrontWritten k from before after none → k < length after → FrontWritten (k + 1) from before (set after k (getD from k none)) none
+  copied-turn {k} {from} {before} {after} {none} w room =
+      record {
+        filled = filled-turn k before after (getD from k none) (w .filled);
+        written =
+            below-more (λ j. getD (set after k (getD from k none)) j none ≡ getD from j none) k (λ j h. stays after k j (getD from k none) none h ∙ w .written j h)
+            (getD-set-same after k (getD from k none) none room);
+      }
+
+  pub copied-end : {n k : ℕ} {from before after : List A} {none : A} → FrontWritten k from before after none → k ≤ n → n ≤ k → FrontWritten n from before after none
+  copied-end {n} {k} w h g = let e : n ≡ k = omega arith in rw e w
+
+-- The pass that reduces: after k turns the first k fractions are the source's in lowest terms.
+pub reduced-start : (num den upper lower : List ℤ) → FractionsWritten 0 num den upper lower upper lower
+reduced-start num den upper lower = record { uppers = filled-start upper; lowers = filled-start lower; reduced = λ j h. absurd (omega arith) }
+
+pub reduced-turn : {k : ℕ} {num den upper₀ lower₀ upper lower : List ℤ} (q : Fraction) → FractionsWritten k num den upper₀ lower₀ upper lower → k < length upper → k < length lower → Reduced (fraction num den k) q → FractionsWritten (k + 1) num den upper₀ lower₀ (set upper k (q .num)) (set lower k (q .den))
+reduced-turn {k} {num} {den} {upper₀} {lower₀} {upper} {lower} q w above below r =
+    record {
+      uppers = filled-turn k upper₀ upper (q .num) (w .uppers);
+      lowers = filled-turn k lower₀ lower (q .den) (w .lowers);
+      reduced =
+          below-more (λ j. Reduced (fraction num den j) (fraction (set upper k (q .num)) (set lower k (q .den)) j)) k
+          (λ j h. rw (stays upper k j (q .num) (pos 0) h, stays lower k j (q .den) (pos 0) h) (w .reduced j h))
+          (rw (getD-set-same upper k (q .num) (pos 0) above, getD-set-same lower k (q .den) (pos 0) below) r);
+    }
+
+pub reduced-end : {n k : ℕ} {num den upper₀ lower₀ upper lower : List ℤ} → FractionsWritten k num den upper₀ lower₀ upper lower → k ≤ n → n ≤ k → FractionsWritten n num den upper₀ lower₀ upper lower
+reduced-end {n} {k} w h g = let e : n ≡ k = omega arith in rw e w
+
+-- zero in lowest terms
+pub zero-reduced : (q : Fraction) → q .num ≡ pos 0 → pos 0 <ℤ q .den → Reduced q (record { num = pos 0; den = pos 1 })
+zero-reduced q z above =
+    record {
+      same = rw z (*ℤ-comm (pos 0) (q .den) ∙ *ℤ-zero (q .den) ∙ sym (*ℤ-zero (pos 1)) ∙ *ℤ-comm (pos 1) (pos 0));
+      lowest = record { above = parts-lt (omega arith); reduced = λ k _ one. eq-one-of-dvd-one one };
+    }

@@ -1,0 +1,105 @@
+-- `core_project::write::multipliers_out` meets its contract. The loop's invariant: the first k fractions are written in lowest terms and the other entries stay
+-- (`FractionsWritten`). The measure is the entries left. Assumes nothing.
+use Prim.Native.Nat.{_≤_, _-_}
+use native.Mathlib.Omega.{arith}
+use mathlib.Core.Path.{_≡_}
+use borrow.Author.Needs.{needs}
+use mir.Syntax.{w64}
+use mir.Val.{toZ, ofZ}
+use Rattle.exact.specs.Fraction.{Reduced}
+use Rattle.ground.specs.Entries.{int}
+use Rattle.core_balance.proofs.Balance.{above-of}
+use Rattle.core_project.specs.Core.{fraction}
+use Rattle.core_project.specs.Project.{FractionsWritten}
+use Rattle.core_project.proofs.Passes.{reduced-start, reduced-turn, reduced-end}
+use Rattle.core_project.proofs.write.multipliers_out.Statement.{statement}
+use Rattle.core_project.proofs.write.multipliers_out.Tie as tie
+
+abbrev Inv-loop : tie.InvT-loop
+Inv-loop count num den upper₀ lower₀ k₀ upper lower k = (k ≤ count) × FractionsWritten k num den upper₀ lower₀ upper lower
+
+abbrev μ-loop : tie.MeasureT-loop
+μ-loop count num den upper₀ lower₀ k₀ upper lower k = count - k
+
+loop-holds : tie.Need-loop-holds Inv-loop μ-loop
+loop-holds c = (omega arith, reduced-start _ _ _ _)
+
+mul-reduced : tie.Need-mul-reduced Inv-loop μ-loop
+mul-reduced c = omega arith
+
+element-copy-out-reduced : tie.Need-element-copy-out-reduced Inv-loop μ-loop
+element-copy-out-reduced c = omega arith
+
+mul-reduced-2 : tie.Need-mul-reduced-2 Inv-loop μ-loop
+mul-reduced-2 c = omega arith
+
+element-copy-out-reduced-2 : tie.Need-element-copy-out-reduced-2 Inv-loop μ-loop
+element-copy-out-reduced-2 c = omega arith
+
+reduced-requires : tie.Need-reduced-requires Inv-loop μ-loop
+reduced-requires c κs =
+    let d = int (c .before .before .before .before .args .den .now) (c .before .before .before .loop .k) in
+    let e : toZ w64 (ofZ w64 d) ≡ d = search needs in
+    rw e (above-of (c .before .before .before .before .pre .3 (c .before .before .before .loop .k) (c .before .before .loop-test .taken)))
+
+mul-top : tie.Need-mul-top Inv-loop μ-loop
+mul-top c = omega arith
+
+slice-set-from-top : tie.Need-slice-set-from-top Inv-loop μ-loop
+slice-set-from-top c = omega arith
+
+mul-bottom : tie.Need-mul-bottom Inv-loop μ-loop
+mul-bottom c = omega arith
+
+slice-set-from-bottom : tie.Need-slice-set-from-bottom Inv-loop μ-loop
+slice-set-from-bottom c = omega arith
+
+add-k : tie.Need-add-k Inv-loop μ-loop
+add-k c = omega arith
+
+loop-less : tie.Need-loop-less Inv-loop μ-loop
+loop-less c = omega arith
+
+loop-again : tie.Need-loop-again Inv-loop μ-loop
+loop-again c =
+    let s = c .before .before .before .before .before .before .before in
+    let w = c .before .before .before .before .before .before .loop in
+    let q = c .before .before .reduced .result in
+    let num : toZ w64 (ofZ w64 (int (s .args .num .now) (w .k))) ≡ int (s .args .num .now) (w .k) = search needs in
+    let den : toZ w64 (ofZ w64 (int (s .args .den .now) (w .k))) ≡ int (s .args .den .now) (w .k) = search needs in
+    let top : toZ w64 (ofZ w64 (q .num)) ≡ q .num = search needs in
+    let bottom : toZ w64 (ofZ w64 (q .den)) ≡ q .den = search needs in
+    let r : Reduced (fraction (s .args .num .now) (s .args .den .now) (w .k)) q = rw (num, den) at (c .before .before .reduced .ensures) in
+    (omega arith, rw (top, bottom) (reduced-turn q (w .inv .1) (omega arith) (omega arith) r))
+
+same-length : tie.Need-same-length Inv-loop μ-loop
+same-length c = c .before .loop .inv .1 .uppers .size
+
+same-length-2 : tie.Need-same-length-2 Inv-loop μ-loop
+same-length-2 c = c .before .loop .inv .1 .lowers .size
+
+returns : tie.Need-returns Inv-loop μ-loop
+returns c = reduced-end (c .before .loop .inv .1) (c .before .loop .inv .0) (c .loop-test .left)
+
+pub multipliers-out-spec : {M : Type 1} → statement M
+multipliers-out-spec =
+    tie.close
+    (tie.spec
+    Inv-loop
+    μ-loop
+    loop-holds
+    mul-reduced
+    element-copy-out-reduced
+    mul-reduced-2
+    element-copy-out-reduced-2
+    reduced-requires
+    mul-top
+    slice-set-from-top
+    mul-bottom
+    slice-set-from-bottom
+    add-k
+    loop-less
+    loop-again
+    same-length
+    same-length-2
+    returns)

@@ -1,0 +1,96 @@
+// The core on plain slices.
+use crate::Projected;
+use crate::copy::bytes_in;
+use crate::copy::distances_in;
+use crate::copy::ends_in;
+use crate::copy::labels_in;
+use crate::solve::solve;
+use crate::write::backs_out;
+use crate::write::marks_out;
+use crate::write::multipliers_out;
+use crate::write::places_out;
+use crate::write::ring_out;
+use ground::lengths::measured_label_bytes;
+use ground::lengths::measured_label_indices;
+use ground::limits::GAPS;
+use ground::limits::LABELS;
+ghost use Rattle.core_project.specs.Project.{Ready, ProjectSays, buffersLent, buffersNow};
+ghost use Rattle.ground.specs.Views.{before};
+
+// Finds the least move. Accepted: the first entries of the buffers hold places and multipliers in lowest terms, and the carried bytes the
+// marks. Otherwise a ring stands in the front of the ring buffer, with 1 beside a gap that is passed backwards, and nothing else is changed.
+pub fn project(
+    wanted: &[i64],
+    weight: &[i64],
+    left: &[usize],
+    right: &[usize],
+    distance: &[i64],
+    kind: &[u8],
+    carried: &mut [u8],
+    place_num: &mut [i64],
+    place_den: &mut [i64],
+    mult_num: &mut [i64],
+    mult_den: &mut [i64],
+    ring: &mut [usize],
+    back: &mut [u8],
+) -> Projected
+    requires { let b = buffersNow «place_num» «place_den» «mult_num» «mult_den» carried ring back in
+        ⌜ Ready (now wanted) (now weight) (now left) (now right) (now distance) (now kind) b ⌝ }
+    ensures { λ r.
+        let b = buffersLent «place_num» «place_den» «mult_num» «mult_den» carried ring back in
+        ⌜ ProjectSays (before wanted) (before weight) (before left) (before right) (before distance) (before kind) r
+        (b .entry) (b .exit) ⌝ }
+{
+    let labels = wanted.len();
+    let gaps = left.len();
+    let mut wants = [0i64; LABELS];
+    let mut weights = [0i64; LABELS];
+    let mut lefts = [0usize; GAPS];
+    let mut rights = [0usize; GAPS];
+    let mut distances = [0i64; GAPS];
+    let mut kinds = [0u8; GAPS];
+    let mut proposed = [0u8; GAPS];
+    labels_in(wanted, &mut wants);
+    labels_in(weight, &mut weights);
+    ends_in(left, &mut lefts);
+    ends_in(right, &mut rights);
+    distances_in(distance, &mut distances);
+    bytes_in(kind, &mut kinds);
+    bytes_in(carried, &mut proposed);
+    let mut mark = [0u8; GAPS];
+    let mut num = [0i64; LABELS];
+    let mut den = [0i64; LABELS];
+    let mut load = [0i64; GAPS];
+    let mut over = [0i64; GAPS];
+    let mut found = [0usize; LABELS];
+    let mut backs = [0u8; LABELS];
+    let size = solve(
+        labels,
+        gaps,
+        &lefts,
+        &rights,
+        &distances,
+        &kinds,
+        &proposed,
+        &wants,
+        &weights,
+        &mut mark,
+        &mut num,
+        &mut den,
+        &mut load,
+        &mut over,
+        &mut found,
+        &mut backs,
+    );
+    if size != 0 {
+        measured_label_indices(&found);
+        measured_label_bytes(&backs);
+        ring_out(size, &found, ring);
+        backs_out(size, &backs, back);
+        return Projected::Ring(size);
+    }
+    places_out(labels, &num, &den, place_num, place_den);
+    multipliers_out(gaps, &load, &over, mult_num, mult_den);
+    marks_out(gaps, &mark, carried);
+    Projected::Placed
+}

@@ -1,0 +1,94 @@
+-- The outer loop. The invariant: the marks are a forest in balance, and the labels stand where it puts them, with its multipliers. The measure falls as the cost grows.
+use mathlib.Core.Path.{_≡_, subst}
+use borrow.Author.Needs.{needs}
+use Rattle.least_move.specs.States.{measure}
+use Rattle.ground.specs.Entries.{int}
+use Rattle.core_forest.specs.Problem.{Problem, numbersOf}
+use Rattle.core_settle.specs.declared.TurnEnd.{TurnEnd}
+use Rattle.core_settle.specs.declared.TurnEnd.the-variants.{Done, Again, Ring}
+use Rattle.core_standing.specs.Standing.{Standing}
+use Rattle.core_settle.specs.Settle.{TurnSays}
+use Rattle.core_settle.proofs.Turning.{settle-ring}
+use Rattle.core_settle.proofs.settle.settle.Statement.{statement}
+use Rattle.core_settle.proofs.settle.settle.Tie as tie
+
+abbrev Inv-loop : tie.InvT-loop
+Inv-loop labels gaps left right distance kind mark₀ wanted weight num₀ den₀ ring₀ back₀ at₀ queue₀ via₀ up₀ off₀ held₀ share₀ load₀ over₀ mark num den ring back at queue via up off held share load over =
+    Standing (record { labels = labels; gaps = gaps; left = left; right = right; distance = distance; kind = kind; wanted = wanted; weight = weight }) mark num den load over
+
+abbrev μ-loop : tie.MeasureT-loop
+μ-loop labels gaps left right distance kind mark₀ wanted weight num₀ den₀ ring₀ back₀ at₀ queue₀ via₀ up₀ off₀ held₀ share₀ load₀ over₀ mark num den ring back at queue via up off held share load over =
+    measure (numbersOf (record { labels = labels; gaps = gaps; left = left; right = right; distance = distance; kind = kind; wanted = wanted; weight = weight })) (int num) (int den)
+
+abbrev problem : tie.Start Inv-loop μ-loop → Problem
+problem s =
+    record {
+      labels = s .args .labels;
+      gaps = s .args .gaps;
+      left = s .args .left .now;
+      right = s .args .right .now;
+      distance = s .args .distance .now;
+      kind = s .args .kind .now;
+      wanted = s .args .wanted .now;
+      weight = s .args .weight .now;
+    }
+
+loop-holds : tie.Need-loop-holds Inv-loop μ-loop
+loop-holds c = c .pre .1
+
+abbrev start : tie.At-loop Inv-loop μ-loop → tie.Start Inv-loop μ-loop
+start c = c .before
+
+turn-requires : tie.Need-turn-requires Inv-loop μ-loop
+turn-requires c κs =
+    let o = c .before .before .before .before .before .before .before .before .before .before .before .before .before .before in
+    (start o .pre .0, o .loop .inv)
+
+-- what the turn says, at its result
+abbrev SaysAt : tie.After-turn Inv-loop μ-loop → TurnEnd → Type 0
+SaysAt c t =
+    let o = c .before .before .before .before .before .before .before .before .before .before .before .before .before .before .before in
+    TurnSays (problem (start o)) (o .loop .mark) (o .loop .num) (o .loop .den) t (c .turn .last .1 .1 .1 .1 .1 .1 .0) (c .turn .last .1 .1 .1 .1 .1 .1 .1 .1 .1 .0) (c .turn .last .1 .1 .1 .1 .1 .1 .1 .1 .1 .1 .0) (c .turn .last .1 .1 .1 .1 .1 .1 .1 .1 .1 .1 .1 .1 .1 .1 .1 .1 .1 .1 .1 .1 .0) (c .turn .last .1 .1 .1 .1 .1 .1 .1 .1 .1 .1 .1 .1 .1 .1 .1 .1 .1 .1 .1 .1 .1 .0) (c .turn .last .1 .1 .1 .1 .1 .1 .1 .1 .1 .1 .1 .0) (c .turn .last .1 .1 .1 .1 .1 .1 .1 .1 .1 .1 .1 .1 .0)
+
+says-at : (c : tie.After-turn Inv-loop μ-loop) (t : TurnEnd) → c .turn .result ≡ t → SaysAt c t
+says-at c t is = subst (SaysAt c) is (c .turn .ensures)
+
+enum-told : tie.Need-enum-told Inv-loop μ-loop
+enum-told c = search needs
+
+returns : tie.Need-returns Inv-loop μ-loop
+returns c = says-at (c .before .before) Done (c .enum-told .given .1)
+
+enum-known-next : tie.Need-enum-known-next Inv-loop μ-loop
+enum-known-next c = search needs
+
+returns-2 : tie.Need-returns-2 Inv-loop μ-loop
+returns-2 c =
+    let o = c .before .before .before in
+    let size = c .before .next .given .0 .0 in
+    settle-ring (problem (start (o .before .before .before .before .before .before .before .before .before .before .before .before .before .before .before))) size (o .turn .last .1 .1 .1 .1 .1 .1 .0) (o .turn .last .1 .1 .1 .1 .1 .1 .1 .1 .1 .0) (o .turn .last .1 .1 .1 .1 .1 .1 .1 .1 .1 .1 .0) (o .turn .last .1 .1 .1 .1 .1 .1 .1 .1 .1 .1 .1 .1 .1 .1 .1 .1 .1 .1 .1 .1 .0) (o .turn .last .1 .1 .1 .1 .1 .1 .1 .1 .1 .1 .1 .1 .1 .1 .1 .1 .1 .1 .1 .1 .1 .0) (o .turn .last .1 .1 .1 .1 .1 .1 .1 .1 .1 .1 .1 .0) (o .turn .last .1 .1 .1 .1 .1 .1 .1 .1 .1 .1 .1 .1 .0) (says-at o (Ring size) (c .before .next .given .1))
+
+enum-told-2 : tie.Need-enum-told-2 Inv-loop μ-loop
+enum-told-2 c = search needs
+
+loop-less : tie.Need-loop-less Inv-loop μ-loop
+loop-less c = says-at (c .before .before) Again (c .enum-told2 .given .1) .1
+
+loop-again : tie.Need-loop-again Inv-loop μ-loop
+loop-again c = says-at (c .before .before) Again (c .enum-told2 .given .1) .0
+
+pub settle-spec : {M : Type 1} → statement M
+settle-spec =
+    tie.close
+    (tie.spec
+    Inv-loop
+    μ-loop
+    loop-holds
+    turn-requires
+    enum-told
+    returns
+    enum-known-next
+    returns-2
+    enum-told-2
+    loop-less
+    loop-again)

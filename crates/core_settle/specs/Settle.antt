@@ -1,0 +1,34 @@
+-- The outer loop: from a forest that is in balance to one at which every gap holds, or to a ring.
+use Prim.Native.Nat.{ℕ, zero, suc, _≤_, _<_}
+use mathlib.Core.Bool.{Bool, true, false}
+use mathlib.Core.List.{List, []}
+use lib.ListN.{take}
+use lib.IntN.{ℤ, pos, _-ℤ_}
+use Rattle.least_move.specs.Sheet.{label}
+use Rattle.least_move.specs.States.{measure}
+use Rattle.ground.specs.Entries.{nat, int}
+use Rattle.core_forest.specs.Problem.{Problem, numbersOf, sheetFrom}
+use Rattle.core_ring.specs.Way.{stepsOf, IsRing}
+use Rattle.core_settle.specs.declared.Push.{Push}
+use Rattle.core_settle.specs.declared.TurnEnd.{TurnEnd}
+use Rattle.core_settle.specs.declared.TurnEnd.the-variants.{Done, Again, Ring}
+use Rattle.ground.specs.Limits.{labelsMost}
+use Rattle.core_standing.specs.Standing.{Standing, AllHold}
+
+-- the push of a gap
+abbrev pub pushOf : (left right : List ℕ) (distance : List ℤ) → ℕ → Bool → Push
+pushOf left right distance e true = record { from = label (nat right e); to = label (nat left e); reach = pos 0 -ℤ int distance e }
+pushOf left right distance e false = record { from = label (nat left e); to = label (nat right e); reach = int distance e }
+
+-- a ring stands in the front of the two ring arrays
+abbrev pub RingStands : Problem → ℕ → (ring back : List ℕ) → Type 0
+RingStands p size ring back = (0 < size) × (size ≤ labelsMost) × IsRing (sheetFrom p) (stepsOf (take size ring) (take size back))
+
+abbrev pub TurnSays : (p : Problem) (mark₀ : List ℕ) (num₀ den₀ : List ℤ) → TurnEnd → (mark : List ℕ) (num den load over : List ℤ) (ring back : List ℕ) → Type 0
+TurnSays p mark₀ num₀ den₀ Done mark num den load over ring back = Standing p mark num den load over × AllHold p num den
+TurnSays p mark₀ num₀ den₀ Again mark num den load over ring back = Standing p mark num den load over × (measure (numbersOf p) (int num) (int den) < measure (numbersOf p) (int num₀) (int den₀))
+TurnSays p mark₀ num₀ den₀ (Ring size) mark num den load over ring back = RingStands p size ring back
+
+abbrev pub SettleSays : (p : Problem) → ℕ → (mark : List ℕ) (num den load over : List ℤ) (ring back : List ℕ) → Type 0
+SettleSays p zero mark num den load over ring back = Standing p mark num den load over × AllHold p num den
+SettleSays p (suc k) mark num den load over ring back = RingStands p (suc k) ring back

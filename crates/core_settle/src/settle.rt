@@ -1,0 +1,82 @@
+// The outer loop.
+use crate::TurnEnd;
+use crate::turn::turn;
+use ground::limits::GapBytes;
+use ground::limits::GapIndices;
+use ground::limits::GapInts;
+use ground::limits::LabelBytes;
+use ground::limits::LabelIndices;
+use ground::limits::LabelInts;
+ghost use Rattle.core_forest.specs.Problem.{Limits, problemLent, problemNow};
+ghost use Rattle.core_standing.specs.Standing.{Standing};
+ghost use Rattle.core_settle.specs.Settle.{SettleSays};
+ghost use Rattle.ground.specs.Views.{after};
+
+// Takes outer steps until every gap holds (0), or a ring of so many gaps was written.
+pub fn settle(
+    labels: usize,
+    gaps: usize,
+    left: &GapIndices,
+    right: &GapIndices,
+    distance: &GapInts,
+    kind: &GapBytes,
+    mark: &mut GapBytes,
+    wanted: &LabelInts,
+    weight: &LabelInts,
+    num: &mut LabelInts,
+    den: &mut LabelInts,
+    ring: &mut LabelIndices,
+    back: &mut LabelBytes,
+    at: &mut LabelIndices,
+    queue: &mut LabelIndices,
+    via: &mut LabelIndices,
+    up: &mut LabelIndices,
+    off: &mut LabelInts,
+    held: &mut LabelInts,
+    share: &mut LabelInts,
+    load: &mut GapInts,
+    over: &mut GapInts,
+) -> usize
+    requires { let p = problemNow labels gaps left right distance kind wanted weight in
+        ⌜ Limits p
+        × Standing p (now mark) (now num) (now den) (now load) (now over) ⌝ }
+    ensures { λ r.
+        let p = problemLent labels gaps left right distance kind wanted weight in
+        ⌜ SettleSays p r (after mark) (after num) (after den) (after load) (after over) (after ring) (after back) ⌝ }
+{
+    loop {
+        let next = turn(
+            labels,
+            gaps,
+            left,
+            right,
+            distance,
+            kind,
+            mark,
+            wanted,
+            weight,
+            num,
+            den,
+            ring,
+            back,
+            at,
+            queue,
+            via,
+            up,
+            off,
+            held,
+            share,
+            load,
+            over,
+        );
+        match next {
+            TurnEnd::Done => {
+                return 0;
+            }
+            TurnEnd::Ring(size) => {
+                return size;
+            }
+            TurnEnd::Again => {}
+        }
+    }
+}

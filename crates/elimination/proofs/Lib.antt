@@ -1,4 +1,0 @@
-pub mod Loops
-pub mod Ranges
-pub mod Eliminated
-pub mod TreeFlow

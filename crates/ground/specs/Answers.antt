@@ -1,0 +1,21 @@
+-- The answer of a layout call, by document 01's number and values for each of its cases.
+use Prim.Native.Nat.{ℕ}
+use Rattle.ground.specs.declared.Answer.{Answer}
+use Rattle.ground.specs.declared.Answer.the-variants.{Placed, Refused}
+
+-- this paper's number and values for each case of an answer: 0 for placed
+abbrev pub numberOf : Answer → ℕ
+numberOf Placed = 0
+numberOf (Refused r) = r .number
+
+abbrev pub placedAt : Answer → ℕ
+placedAt Placed = 0
+placedAt (Refused r) = r .place
+
+abbrev pub ringLengthOf : Answer → ℕ
+ringLengthOf Placed = 0
+ringLengthOf (Refused r) = r .ring
+
+-- the refusal of a number at a place, with a ring's length
+abbrev pub refusal : ℕ → ℕ → ℕ → Answer
+refusal number place ring = Refused (record { number = number; place = place; ring = ring })

@@ -1,0 +1,4 @@
+pub mod Limits
+pub mod Views
+pub mod Entries
+pub mod Answers

@@ -1,0 +1,33 @@
+// What every crate shares: the limits of a sheet, its work arrays, the numbers of labels, blocks and gaps, a gap as a record, and answers.
+pub mod bytes;
+pub mod copies;
+pub mod lengths;
+pub mod limits;
+pub mod signs;
+
+// Labels, blocks and gaps by their numbers. Each counts from 0, and none may stand where another is meant.
+pub struct Label(pub usize);
+
+pub struct Block(pub usize);
+
+pub struct GapNumber(pub usize);
+
+// A gap as a station lends it in a list of records.
+pub struct GapRecord {
+    pub left: usize,
+    pub right: usize,
+    pub distance: i64,
+}
+
+// A refusal of document 01: its number, its place, and with 9 the ring's length (else 0). All answers share it.
+pub struct Refusal {
+    pub number: usize,
+    pub place: usize,
+    pub ring: usize,
+}
+
+// The answer of a layout: placed, or refused with its number, its place and the ring's length.
+pub enum Answer {
+    Placed,
+    Refused(Refusal),
+}

@@ -1,0 +1,38 @@
+// The limits of a sheet, and the arrays of those lengths that the part works on.
+
+// Labels and gaps on a sheet, at most.
+pub const LABELS: usize = 48;
+
+pub const GAPS: usize = 192;
+
+// Block numbers are bytes.
+pub const BLOCKS: usize = 256;
+
+// A wanted place and a gap's distance, either way; a weight, at least and at most.
+pub const WANTED_MOST: i64 = 200000;
+
+pub const DISTANCE_MOST: i64 = 20000;
+
+pub const WEIGHT_LEAST: i64 = 1;
+
+pub const WEIGHT_MOST: i64 = 100;
+
+// A number, an index, a byte or a double for each label.
+pub type LabelInts = [i64; LABELS];
+
+pub type LabelIndices = [usize; LABELS];
+
+pub type LabelBytes = [u8; LABELS];
+
+pub type LabelDoubles = [f64; LABELS];
+
+// The same for each gap, and a double for each block number.
+pub type GapInts = [i64; GAPS];
+
+pub type GapIndices = [usize; GAPS];
+
+pub type GapBytes = [u8; GAPS];
+
+pub type GapDoubles = [f64; GAPS];
+
+pub type BlockDoubles = [f64; BLOCKS];

@@ -1,3 +1,0 @@
-pub mod Finish
-pub mod Agreeing
-pub mod Passes

@@ -1,2 +1,0 @@
-pub mod Planting
-pub mod Doubles

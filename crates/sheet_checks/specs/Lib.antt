@@ -1,0 +1,3 @@
+pub mod Lent
+pub mod Refusals
+pub mod Checks

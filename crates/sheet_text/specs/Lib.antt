@@ -1,9 +1,0 @@
-pub mod Lines
-pub mod Numeral
-pub mod Fields
-pub mod Taking
-pub mod Texts
-pub mod Parts
-pub mod Listing
-pub mod Appended
-pub mod Printed

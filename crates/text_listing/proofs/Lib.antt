@@ -1,0 +1,4 @@
+pub mod Appending
+pub mod Size
+pub mod Laying
+pub mod Samples

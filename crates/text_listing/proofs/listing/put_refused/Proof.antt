@@ -1,0 +1,58 @@
+-- `text_listing::listing::put_refused` meets its contract: the word, two fields and the end behind each other.
+use borrow.Author.Needs.{needs}
+use mathlib.Core.Path.{_∙_}
+use native.Mathlib.Omega.{arith}
+use Rattle.text_listing.specs.Listing.{refusedWord, refusedRecord}
+use Rattle.text_listing.proofs.Appending.{then, copied}
+use Rattle.text_listing.proofs.Size.{length-decimal-64}
+use Rattle.text_listing.proofs.listing.put_refused.Statement.{statement}
+use Rattle.text_listing.proofs.listing.put_refused.Tie as tie
+
+slice-aggregate-put-word : tie.Need-slice-aggregate-put-word
+slice-aggregate-put-word c = search needs
+
+put-word-requires : tie.Need-put-word-requires
+put-word-requires c κs = search needs
+
+put-number-field-requires : tie.Need-put-number-field-requires
+put-number-field-requires c κs =
+    let s = c .before .before .before .before .before .before .before in
+    omega
+    (arith, length-decimal-64 (s .args .number) (s .fits .number))
+
+put-number-field-requires-2 : tie.Need-put-number-field-requires-2
+put-number-field-requires-2 c κs =
+    let s = c .before .before .before .before .before .before .before .before .before .before .before in
+    omega
+    (arith, length-decimal-64 (s .args .number) (s .fits .number), length-decimal-64 (s .args .place) (s .fits .place))
+
+put-end-requires : tie.Need-put-end-requires
+put-end-requires c κs =
+    let s = c .before .before .before .before .before .before .before .before .before .before .before .before .before .before .before in
+    omega
+    (arith, length-decimal-64 (s .args .number) (s .fits .number), length-decimal-64 (s .args .place) (s .fits .place))
+
+same-length : tie.Need-same-length
+same-length c =
+    c .before .before .put-end .kept .0
+    ∙ c .before .before .before .before .before .before .put-number-field2 .kept .0
+    ∙ c .before .before .before .before .before .before .before .before .before .before .put-number-field .kept .0
+    ∙ c .before .before .before .before .before .before .before .before .before .before .before .before .before .before .put-word .kept .0
+
+returns : tie.Need-returns
+unfolding refusedRecord
+returns c =
+    then (copied refusedWord (omega arith) (c .before .before .before .before .before .before .before .before .before .before .before .before .before .before .put-word .ensures .0) (c .before .before .before .before .before .before .before .before .before .before .before .before .before .before .put-word .ensures .1))
+    (then (c .before .before .before .before .before .before .before .before .before .before .put-number-field .ensures) (then (c .before .before .before .before .before .before .put-number-field2 .ensures) (c .before .before .put-end .ensures)))
+
+pub put-refused-spec : {M : Type 1} → statement M
+put-refused-spec =
+    tie.close
+    (tie.spec
+    slice-aggregate-put-word
+    put-word-requires
+    put-number-field-requires
+    put-number-field-requires-2
+    put-end-requires
+    same-length
+    returns)

@@ -1,0 +1,63 @@
+-- The listing (document 01, "Sheet text"): "the word place, label number, numerator, denominator, whole unit", or "refused, number, place"; every record ended by CRLF.
+use Prim.Native.Nat.{ℕ, zero, suc}
+use mathlib.Core.Bool.{cond}
+use mathlib.Core.List.{List, [], _∷_, _++_}
+use lib.Dec.{eqb, ltb, leb}
+use lib.ListN.{length, getD, drop}
+use lib.IntN.{ℤ, pos}
+use Rattle.ground.specs.declared.Refusal.{Refusal}
+use Rattle.exact.specs.Round.{rounded, wholeOf}
+use Rattle.ground.specs.declared.Answer.{Answer}
+use Rattle.ground.specs.declared.Answer.the-variants.{Placed, Refused}
+use Rattle.text_listing.specs.declared.Listed.{Listed}
+use Rattle.text_listing.specs.declared.Listed.the-variants as listed
+use Rattle.text_rows.specs.Lines.{next, recordEnd}
+use Rattle.text_rows.specs.Numeral.{decimal, signedDecimal}
+use Rattle.ground.specs.Limits.{labelsMost}
+
+-- the words place and refused
+abbrev pub placeWord : List ℕ
+placeWord = 112 ∷ 108 ∷ 97 ∷ 99 ∷ 101 ∷ []
+
+abbrev pub refusedWord : List ℕ
+refusedWord = 114 ∷ 101 ∷ 102 ∷ 117 ∷ 115 ∷ 101 ∷ 100 ∷ []
+
+-- the record of a label; a fraction that rounding refuses has whole unit 0
+unfoldable pub placeRecord : ℕ → ℤ → ℤ → List ℕ
+placeRecord i num den = placeWord ++ (next (decimal i) ++ (next (signedDecimal num) ++ (next (signedDecimal den) ++ (next (signedDecimal (wholeOf (rounded num den))) ++ recordEnd))))
+
+-- the records of the first n labels
+unfoldable pub placeRecords : ℕ → List ℤ → List ℤ → List ℕ
+placeRecords zero nums dens = []
+placeRecords (suc n) nums dens = placeRecords n nums dens ++ placeRecord n (getD nums n (pos 0)) (getD dens n (pos 0))
+
+-- "A refused sheet prints only: refused, number, place"
+unfoldable pub refusedRecord : Refusal → List ℕ
+refusedRecord r = refusedWord ++ (next (decimal (r .number)) ++ (next (decimal (r .place)) ++ recordEnd))
+
+-- the listing of an answer, over the places of its labels
+abbrev pub listing : Answer → List ℤ → List ℤ → List ℕ
+listing Placed nums dens = placeRecords (length nums) nums dens
+listing (Refused r) nums dens = refusedRecord r
+
+-- an answer with the buffer afterwards
+pub record Listing : Type 0 where
+  pub answer : Listed
+  pub buffer : List ℕ
+
+abbrev pub listedAs : Listed → List ℕ → Listing
+listedAs answer b = record { answer = answer; buffer = b }
+
+abbrev pub notListed : ℕ → List ℕ → Listing
+notListed number b = record { answer = listed.Refused (record { number = number; place = 0; ring = 0 }); buffer = b }
+
+-- a text over the front of a buffer; one that is too short for it is refused with 4 and stays
+abbrev pub laid : List ℕ → List ℕ → Listing
+laid text b = cond (leb (length text) (length b)) (record { answer = listed.Written (length text); buffer = text ++ drop (length text) b }) (notListed 4 b)
+
+-- labels are counted by the numerators: 1 for more than 48, 3 if the denominators are not as many
+unfoldable pub listedIn : Answer → List ℤ → List ℤ → List ℕ → Listing
+listedIn (Refused r) nums dens b = laid (refusedRecord r) b
+listedIn Placed nums dens b =
+    cond (ltb labelsMost (length nums)) (notListed 1 b)
+    (cond (eqb (length dens) (length nums)) (laid (placeRecords (length nums) nums dens) b) (notListed 3 b))

@@ -1,0 +1,140 @@
+// The listing of an answer: a record for each label, or the refused record.
+use crate::Listed;
+use crate::digits::put_byte;
+use crate::digits::put_number_field;
+use crate::digits::put_signed_field;
+use crate::digits::put_word;
+use exact::round::round;
+use ground::Answer;
+use ground::Refusal;
+use ground::limits::LABELS;
+ghost use mathlib.Core.Path.{_≡_};
+ghost use Prim.Native.Nat.{_+_, _<_, _≤_};
+ghost use lib.ListN.{length};
+ghost use Rattle.exact.specs.Round.{rounded, wholeOf};
+ghost use Rattle.ground.specs.declared.Answer.the-variants.{Placed};
+ghost use Rattle.text_listing.specs.Appended.{Appended};
+ghost use Rattle.text_rows.specs.Lines.{recordEnd};
+ghost use Rattle.text_listing.specs.Listing.{placeRecord, placeRecords, refusedRecord, listedAs, laid, listedIn};
+ghost use Rattle.ground.specs.Limits.{labelsMost};
+ghost use Rattle.ground.specs.Views.{after, before};
+
+// Puts the end of a record.
+fn put_end(buf: &mut [u8], at: usize) -> usize
+    requires { ⌜ at + 2 ≤ length (now buf) ⌝ }
+    ensures { λ r. ⌜ Appended (before buf) at recordEnd (after buf) r ⌝ }
+{
+    let end = put_byte(buf, at, b'\r');
+    put_byte(buf, end, b'\n')
+}
+
+// The whole unit of a fraction, 0 for one that rounding refuses.
+fn whole_unit(num: i64, den: i64) -> i64
+    ensures { λ r. ⌜ r ≡ wholeOf (rounded num den) ⌝ }
+{
+    let rounded = round(num, den);
+    rounded.whole()
+}
+
+// Puts the record of a label.
+fn put_place(buf: &mut [u8], at: usize, label: usize, num: i64, den: i64) -> usize
+    requires { ⌜ (label < labelsMost) × (at + 64 ≤ length (now buf)) ⌝ }
+    ensures { λ r. ⌜ Appended (before buf) at (placeRecord label num den) (after buf) r ⌝ }
+{
+    let word = put_word(buf, at, b"place");
+    let number = put_number_field(buf, word, label as u64);
+    let upper = put_signed_field(buf, number, num);
+    let lower = put_signed_field(buf, upper, den);
+    let unit = put_signed_field(buf, lower, whole_unit(num, den));
+    put_end(buf, unit)
+}
+
+// Puts the records of all labels.
+fn put_places(buf: &mut [u8], place_num: &[i64], place_den: &[i64]) -> usize
+    requires { ⌜ (length (now «place_num») ≤ labelsMost)
+        × (length (now «place_den») ≡ length (now «place_num»))
+        × (3072 ≤ length (now buf)) ⌝ }
+    ensures { λ r.
+        ⌜ Appended (before buf) 0 (placeRecords (length (before «place_num»)) (before «place_num») (before «place_den»))
+        (after buf) r ⌝ }
+{
+    let mut at: usize = 0;
+    let mut label: usize = 0;
+    while label < place_num.len() {
+        at = put_place(buf, at, label, place_num[label], place_den[label]);
+        label += 1;
+    }
+    at
+}
+
+// Puts the record of a refused sheet.
+fn put_refused(buf: &mut [u8], number: usize, place: usize) -> usize
+    requires { ⌜ 51 ≤ length (now buf) ⌝ }
+    ensures { λ r.
+        ⌜ Appended (before buf) 0 (refusedRecord (record { number = number; place = place; ring = 0 })) (after buf) r ⌝ }
+{
+    let word = put_word(buf, 0, b"refused");
+    let first = put_number_field(buf, word, number as u64);
+    let second = put_number_field(buf, first, place as u64);
+    put_end(buf, second)
+}
+
+// A refusal of the listing, whose place is 0.
+fn refused(number: usize) -> Listed
+    ensures { λ r. ⌜ r ≡ Listed.Refused (record { number = number; place = 0; ring = 0 }) ⌝ }
+{
+    Listed::Refused(Refusal {
+        number,
+        place: 0,
+        ring: 0,
+    })
+}
+
+// Lays a text over the front of a buffer, or refuses a buffer that is too short.
+fn lay(text: &[u8], out: &mut [u8]) -> Listed
+    ensures { λ r. ⌜ listedAs r (after out) ≡ laid (before text) (before out) ⌝ }
+{
+    if out.len() < text.len() {
+        return refused(4);
+    }
+    let end = put_word(out, 0, text);
+    Listed::Written(end)
+}
+
+// The listing of a placed sheet.
+fn list_places(place_num: &[i64], place_den: &[i64], out: &mut [u8]) -> Listed
+    ensures { λ r.
+        ⌜ listedAs r (after out) ≡ listedIn Placed (before «place_num») (before «place_den») (before out) ⌝ }
+{
+    if LABELS < place_num.len() {
+        return refused(1);
+    }
+    if place_den.len() != place_num.len() {
+        return refused(3);
+    }
+    let mut text = [0u8; 3072];
+    let end = put_places(&mut text, place_num, place_den);
+    lay(&text[..end], out)
+}
+
+// The listing of a refused sheet.
+fn list_refused(refusal: Refusal, out: &mut [u8]) -> Listed
+    ensures { λ r. ⌜ listedAs r (after out) ≡ laid (refusedRecord refusal) (before out) ⌝ }
+{
+    let mut text = [0u8; 51];
+    let end = put_refused(&mut text, refusal.number, refusal.place);
+    lay(&text[..end], out)
+}
+
+// Writes the listing of an answer to the front of the buffer.
+// 1: more than 48 labels. 3: the lists differ in length. 4: the buffer is too short.
+pub fn write_listing(answer: Answer, place_num: &[i64], place_den: &[i64], out: &mut [u8]) -> Listed
+    ensures { λ r.
+        ⌜ (r ≡ listedIn answer (before «place_num») (before «place_den») (before out) .answer)
+        × (after out ≡ listedIn answer (before «place_num») (before «place_den») (before out) .buffer) ⌝ }
+{
+    match answer {
+        Answer::Placed => list_places(place_num, place_den, out),
+        Answer::Refused(refusal) => list_refused(refusal, out),
+    }
+}

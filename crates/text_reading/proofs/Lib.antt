@@ -1,0 +1,6 @@
+pub mod ArrayLaws
+pub mod ReadLaws
+pub mod Numerals
+pub mod Records
+pub mod Back
+pub mod Examples

@@ -1,0 +1,87 @@
+-- `text_reading::read::hand_over` meets its contract: only counts that pass 1, 2 and 4 are written. Assumes nothing.
+use native.Mathlib.Omega.{arith}
+use denote.Ref.{now}
+use borrow.Author.Needs.{needs}
+use Rattle.text_reading.specs.Texts.{Lists}
+use Rattle.text_reading.proofs.ReadLaws.{Fitting, fitting, handed-refused, handed-sheet, same-lists}
+use Rattle.text_reading.proofs.read.hand_over.Statement.{statement}
+use Rattle.text_reading.proofs.read.hand_over.Tie as tie
+
+-- the lent lists at entry, and the work arrays
+abbrev lent : tie.Start → Lists
+lent s = record { wanted = now (s .args .wanted); weight = now (s .args .weight); left = now (s .args .left); right = now (s .args .right); distance = now (s .args .distance) }
+
+abbrev work : tie.Start → Lists
+work s = record { wanted = now (s .args .d); weight = now (s .args .w); left = now (s .args .u); right = now (s .args .v); distance = now (s .args .g) }
+
+-- the counts pass
+fits : (c : tie.After-answer) → Fitting (c .answer .given .0 .0) (lent (c .before .before .before .before .before .before .before))
+fits c = let s = c .before .before .before .before .before .before .before in fitting (s .args .counts) (lent s) _ (c .before .before .judge .ensures) _ (c .answer .given .1)
+
+judge-requires : tie.Need-judge-requires
+judge-requires c κs = search needs
+
+enum-known-answer : tie.Need-enum-known-answer
+enum-known-answer c = search needs
+
+enum-told : tie.Need-enum-told
+enum-told c = search needs
+
+returns : tie.Need-returns
+returns c = let s = c .before .before .before .before .before .before .before in handed-refused (s .args .counts) (lent s) _ (c .before .before .judge .ensures) (work s) _ (c .enum-told .given .1)
+
+copy-ints-requires : tie.Need-copy-ints-requires
+copy-ints-requires c κs = let f = fits (c .before .before) in (omega (arith, f .labels, c .before .before .before .before .before .before .before .before .before .pre .wanted), f .wanted)
+
+copy-ints-requires-2 : tie.Need-copy-ints-requires-2
+copy-ints-requires-2 c κs = let f = fits (c .before .before .before .before .before) in (omega (arith, f .labels, c .before .before .before .before .before .before .before .before .before .before .before .before .pre .weight), f .weight)
+
+copy-indices-requires : tie.Need-copy-indices-requires
+copy-indices-requires c κs = let f = fits (c .before .before .before .before .before .before .before .before) in (omega (arith, f .gaps, c .before .before .before .before .before .before .before .before .before .before .before .before .before .before .before .pre .left), f .left)
+
+copy-indices-requires-2 : tie.Need-copy-indices-requires-2
+copy-indices-requires-2 c κs = let f = fits (c .before .before .before .before .before .before .before .before .before .before .before .before) in (omega (arith, f .gaps, c .before .before .before .before .before .before .before .before .before .before .before .before .before .before .before .before .before .before .before .pre .right), f .right)
+
+copy-ints-requires-3 : tie.Need-copy-ints-requires-3
+copy-ints-requires-3 c κs = let f = fits (c .before .before .before .before .before .before .before .before .before .before .before .before .before .before .before .before) in (omega (arith, f .gaps, c .before .before .before .before .before .before .before .before .before .before .before .before .before .before .before .before .before .before .before .before .before .before .before .pre .distance), f .distance)
+
+same-length : tie.Need-same-length
+same-length c = search needs
+
+same-length-2 : tie.Need-same-length-2
+same-length-2 c = search needs
+
+same-length-3 : tie.Need-same-length-3
+same-length-3 c = search needs
+
+same-length-4 : tie.Need-same-length-4
+same-length-4 c = search needs
+
+same-length-5 : tie.Need-same-length-5
+same-length-5 c = search needs
+
+returns-2 : tie.Need-returns-2
+returns-2 c =
+    let s = c .before .before .before .before .before .before .before .before .before .before .before .before .before .before .before .before .before .before .before .before .before .before .before .before .before in
+    handed-sheet (s .args .counts) (lent s) _ (c .before .before .before .before .before .before .before .before .before .before .before .before .before .before .before .before .before .before .before .before .judge .ensures) (work s) _ _ (c .before .before .before .before .before .before .before .before .before .before .before .before .before .before .before .before .before .before .answer .given .1)
+    (same-lists (c .before .before .before .before .before .before .before .before .before .before .before .before .before .before .before .copy-ints .ensures) (c .before .before .before .before .before .before .before .before .before .before .before .before .copy-ints2 .ensures) (c .before .before .before .before .before .before .before .before .before .copy-indices .ensures) (c .before .before .before .before .before .copy-indices2 .ensures) (c .before .copy-ints3 .ensures))
+
+pub hand-over-spec : {M : Type 1} → statement M
+hand-over-spec =
+    tie.close
+    (tie.spec
+    judge-requires
+    enum-known-answer
+    enum-told
+    returns
+    copy-ints-requires
+    copy-ints-requires-2
+    copy-indices-requires
+    copy-indices-requires-2
+    copy-ints-requires-3
+    same-length
+    same-length-2
+    same-length-3
+    same-length-4
+    same-length-5
+    returns-2)

@@ -1,0 +1,44 @@
+-- `text_reading::store::store_gap` meets its contract: stored below 192. Assumes nothing.
+use native.Mathlib.Omega.{arith}
+use mathlib.Core.Path.{refl}
+use borrow.Author.Tests.{lt-ltb, le-ltb}
+use borrow.Author.Needs.{needs}
+use Rattle.text_reading.proofs.store.store_gap.Statement.{statement}
+use Rattle.text_reading.proofs.store.store_gap.Tie as tie
+
+mul-left : tie.Need-mul-left
+mul-left c = search needs
+
+element-write-left : tie.Need-element-write-left
+element-write-left c = search needs
+
+mul-right : tie.Need-mul-right
+mul-right c = search needs
+
+element-write-right : tie.Need-element-write-right
+element-write-right c = search needs
+
+mul-g : tie.Need-mul-g
+mul-g c = search needs
+
+element-set-from-g : tie.Need-element-set-from-g
+element-set-from-g c = search needs
+
+returns : tie.Need-returns
+returns c = let s = c .before .before in simp (lt-ltb (s .args .k) 192 (omega arith)) (refl, refl, search needs)
+
+returns-2 : tie.Need-returns-2
+returns-2 c = let s = c .before in simp (le-ltb (s .args .k) 192 (c .if1 .left)) (search needs)
+
+pub store-gap-spec : {M : Type 1} → statement M
+store-gap-spec =
+    tie.close
+    (tie.spec
+    mul-left
+    element-write-left
+    mul-right
+    element-write-right
+    mul-g
+    element-set-from-g
+    returns
+    returns-2)

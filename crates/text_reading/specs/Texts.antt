@@ -1,0 +1,116 @@
+-- A text read into lent lists (document 01, "Sheet text" and "Refusal table").
+use Prim.Native.Nat.{ℕ, suc}
+use mathlib.Core.Bool.{Bool, cond, _&&_}
+use mathlib.Core.List.{List, [], _∷_, _++_, map}
+use lib.Dec.{ltb, leb}
+use lib.ListN.{length, drop}
+use lib.IntN.{ℤ}
+use Rattle.ground.specs.declared.GapRecord.{GapRecord}
+use Rattle.text_rows.specs.declared.LabelRow.{LabelRow}
+use Rattle.text_rows.specs.declared.Row.{Row}
+use Rattle.text_rows.specs.declared.Row.the-variants.{Label, Gap}
+use Rattle.text_rows.specs.declared.Taken.{Taken}
+use Rattle.text_rows.specs.declared.Taken.the-variants.{Good, Bad}
+use Rattle.text_reading.specs.declared.Counts.{Counts}
+use Rattle.text_reading.specs.declared.Reading.{Reading}
+use Rattle.text_reading.specs.declared.Reading.the-variants.{Sheet, Refused}
+use Rattle.text_rows.specs.Lines.{lines}
+use Rattle.text_rows.specs.Taking.{taken}
+use Rattle.ground.specs.Limits.{gapsMost, labelsMost}
+use denote.Triple.Both.{Both}
+use Rattle.ground.specs.Views.{Param}
+use denote.Ref.{RefT, now}
+
+-- the labels and the gaps of a text, each in the order of their records; "a gap may come before the labels it names"
+pub record Typed : Type 0 where
+  pub labels : List LabelRow
+  pub gaps : List GapRecord
+
+abbrev pub nothingTyped : Typed
+nothingTyped = record { labels = []; gaps = [] }
+
+-- with one record more
+abbrev pub add : Typed → Row → Typed
+add t (Label r) = record { labels = t .labels ++ (r ∷ []); gaps = t .gaps }
+add t (Gap g) = record { labels = t .labels; gaps = t .gaps ++ (g ∷ []) }
+
+-- a text is a sheet, or has a first bad line, "line from 1"
+pub data Outcome : Type 0 where
+  bad-line : ℕ → Outcome
+  sheet : Typed → Outcome
+
+-- "A line is taken apart as label or gap; otherwise the reading stops there with 10"
+abbrev pub follow : Taken → ℕ → Typed → (Typed → Outcome) → Outcome
+follow Bad n t next = bad-line n
+follow (Good row) n t next = next (add t row)
+
+unfoldable pub readFrom : List (List ℕ) → ℕ → Typed → Outcome
+readFrom [] n t = sheet t
+readFrom (l ∷ ls) n t = follow (taken (length (t .labels)) l) n t (readFrom ls (suc n))
+
+-- "Empty input is a sheet of no labels"
+abbrev pub outcome : List ℕ → Outcome
+outcome text = readFrom (lines text) 1 nothingTyped
+
+-- the lists that are lent
+pub record Lists : Type 0 where
+  pub wanted : List ℤ
+  pub weight : List ℤ
+  pub left : List ℕ
+  pub right : List ℕ
+  pub distance : List ℤ
+
+-- "writes their first entries only, one per label or gap"
+abbrev pub front : {A : Type 0} → List A → List A → List A
+front xs before = xs ++ drop (length xs) before
+
+unfoldable pub filled : Typed → Lists → Lists
+filled t b = record {
+  wanted = front (map (λ r. r .wanted) (t .labels)) (b .wanted);
+  weight = front (map (λ r. r .weight) (t .labels)) (b .weight);
+  left = front (map (λ g. g .left) (t .gaps)) (b .left);
+  right = front (map (λ g. g .right) (t .gaps)) (b .right);
+  distance = front (map (λ g. g .distance) (t .gaps)) (b .distance);
+}
+
+-- what is not met by "4 after 1 and 2 if a list is too short"
+unfoldable pub roomFor : Typed → Lists → Bool
+roomFor t b = leb (length (t .labels)) (length (b .wanted)) && leb (length (t .labels)) (length (b .weight)) && leb (length (t .gaps)) (length (b .left)) && leb (length (t .gaps)) (length (b .right)) && leb (length (t .gaps)) (length (b .distance))
+
+-- an answer with the lists afterwards
+pub record Done : Type 0 where
+  pub answer : Reading
+  pub lists : Lists
+
+-- "A refused call writes nothing"
+abbrev pub refusedWith : ℕ → ℕ → Lists → Done
+refusedWith number place b = record { answer = Refused (record { number = number; place = place; ring = 0 }); lists = b }
+
+abbrev pub countsOf : Typed → Counts
+countsOf t = record { labels = length (t .labels); gaps = length (t .gaps) }
+
+-- a text without a bad line: 1, 2, then 4
+abbrev pub settled : Typed → Lists → Done
+settled t b =
+    cond (ltb labelsMost (length (t .labels))) (refusedWith 1 0 b)
+    (cond (ltb gapsMost (length (t .gaps))) (refusedWith 2 0 b)
+    (cond (roomFor t b) (record { answer = Sheet (countsOf t); lists = filled t b }) (refusedWith 4 0 b)))
+
+abbrev pub judged : Outcome → Lists → Done
+judged (bad-line n) b = refusedWith 10 n b
+judged (sheet t) b = settled t b
+
+-- "Checks run in this order: 11, 10, then 1": the whole of a reading
+unfoldable pub reading : List ℕ → Lists → Done
+reading text b = cond (ltb 16384 (length text)) (refusedWith 11 0 b) (judged (outcome text) b)
+
+-- ---- the lent lists: as a `requires` sees them, and at entry and exit as an `ensures` does
+
+abbrev pub listsNow : (wanted weight : RefT (List ℤ)) (left right : RefT (List ℕ)) (distance : RefT (List ℤ)) → Lists
+listsNow wanted weight left right distance = record { wanted = now wanted; weight = now weight; left = now left; right = now right; distance = now distance }
+
+abbrev pub listsLent : (wanted weight : Param ℤ) (left right : Param ℕ) (distance : Param ℤ) → Both Lists Lists
+listsLent wanted weight left right distance = record {
+  entry = listsNow (wanted .entry) (weight .entry) (left .entry) (right .entry) (distance .entry);
+  exit = listsNow (wanted .exit) (weight .exit) (left .exit) (right .exit) (distance .exit);
+}

@@ -1,0 +1,5 @@
+pub mod DigitLaws
+pub mod FieldLaws
+pub mod AnswerLaws
+pub mod LineLaws
+pub mod Decimal

@@ -1,0 +1,114 @@
+// A line taken apart as label or gap.
+use crate::LabelRow;
+use crate::Row;
+use crate::Taken;
+use crate::field;
+use crate::field::Integer;
+use crate::field::Natural;
+use ground::GapRecord;
+ghost use mathlib.Core.Path.{_≡_};
+ghost use mathlib.Core.List.{_∷_, []};
+ghost use Prim.Native.Nat.{_≤_};
+ghost use lib.ListN.{length};
+ghost use Rattle.text_rows.specs.Taking.{labelRow, gapRow, rowOf, taken};
+ghost use Rattle.text_rows.specs.Fields.{FirstComma};
+ghost use Rattle.ground.specs.Views.{before};
+
+// Where the first comma at or after this place stands, or the line's length.
+fn comma_from(line: &[u8], from: usize) -> usize
+    requires { ⌜ from ≤ length (now line) ⌝ }
+    ensures { λ r. ⌜ FirstComma (before line) from r ⌝ }
+{
+    let mut i = from;
+    while i < line.len() {
+        if line[i] == b',' {
+            return i;
+        }
+        i += 1;
+    }
+    i
+}
+
+// A label's record after this many labels: its number is their count.
+fn label_row(number: &[u8], wanted: &[u8], weight: &[u8], labels: usize) -> Taken
+    ensures { λ r. ⌜ r ≡ labelRow labels (before number) (before wanted) (before weight) ⌝ }
+{
+    let Natural::Value(n) = field::number(number) else {
+        return Taken::Bad;
+    };
+    let Integer::Value(d) = field::signed(wanted) else {
+        return Taken::Bad;
+    };
+    let Integer::Value(w) = field::weight(weight) else {
+        return Taken::Bad;
+    };
+    if n != labels {
+        return Taken::Bad;
+    }
+    Taken::Good(Row::Label(LabelRow {
+        wanted: d,
+        weight: w,
+    }))
+}
+
+// A gap's record.
+fn gap_row(left: &[u8], right: &[u8], distance: &[u8]) -> Taken
+    ensures { λ r. ⌜ r ≡ gapRow (before left) (before right) (before distance) ⌝ }
+{
+    let Natural::Value(u) = field::number(left) else {
+        return Taken::Bad;
+    };
+    let Natural::Value(v) = field::number(right) else {
+        return Taken::Bad;
+    };
+    let Integer::Value(g) = field::signed(distance) else {
+        return Taken::Bad;
+    };
+    Taken::Good(Row::Gap(GapRecord {
+        left: u,
+        right: v,
+        distance: g,
+    }))
+}
+
+// A record of four fields, by its first.
+fn row_of(word: &[u8], first: &[u8], second: &[u8], third: &[u8], labels: usize) -> Taken
+    ensures { λ r. ⌜ r ≡ rowOf labels (before word ∷ before first ∷ before second ∷ before third ∷ []) ⌝ }
+{
+    if field::is_word(word, b"label") {
+        return label_row(first, second, third, labels);
+    }
+    if field::is_word(word, b"gap") {
+        return gap_row(first, second, third);
+    }
+    Taken::Bad
+}
+
+// A line after this many labels. It is split at its commas; it must have three.
+pub fn take_row(line: &[u8], labels: usize) -> Taken
+    ensures { λ r. ⌜ r ≡ taken labels (before line) ⌝ }
+{
+    let a = comma_from(line, 0);
+    if a == line.len() {
+        return Taken::Bad;
+    }
+    let b = comma_from(line, a + 1);
+    if b == line.len() {
+        return Taken::Bad;
+    }
+    let c = comma_from(line, b + 1);
+    if c == line.len() {
+        return Taken::Bad;
+    }
+    let d = comma_from(line, c + 1);
+    if d != line.len() {
+        return Taken::Bad;
+    }
+    row_of(
+        &line[0..a],
+        &line[a + 1..b],
+        &line[b + 1..c],
+        &line[c + 1..d],
+        labels,
+    )
+}
