@@ -1,4 +1,5 @@
 pub mod Whole
 pub mod Ring
-pub mod Sum
 pub mod Quotient
+pub mod Sum
+pub mod Samples

@@ -1,4 +1,5 @@
--- Tests and magnitudes of whole numbers, division toward zero by lib.Signed, and what a machine reads back from 64 bits.
+-- Tests and magnitudes of whole numbers, division toward zero by lib.Signed,
+-- and what a machine reads back from 64 bits.
 use mathlib.Core.Path.{_≡_, refl, sym, subst, _∙_, ap}
 use mathlib.Core.Logic.{_⊎_, inl, inr, ⊎-elim}
 use mathlib.Core.Bool.{Bool, true, false}
@@ -205,8 +206,7 @@ pos-of-above {z = pos n} h = refl
 pos-of-above {z = negsuc n} h = absurd (h .lt)
 
 pub natAbs-above : {z : ℤ} → pos 0 <ℤ z → 0 < natAbs z
-natAbs-above {z = pos n} h = omega (arith, lt-parts h)
-natAbs-above {z = negsuc n} h = omega arith
+natAbs-above h = above-natAbs h .2
 
 -- a quotient without remainder
 pub quot-exact : (z g : ℤ) → pos 0 <ℤ g → natAbs g ∣ natAbs z → g *ℤ quotZ z g ≡ z
@@ -234,10 +234,6 @@ ofZ-above w {d = negsuc n} h = absurd (h .lt)
 pub natAbs-negated : (z : ℤ) → natAbs (pos 0 -ℤ z) ≡ natAbs z
 natAbs-negated z = rw (+ℤ-idl (negℤ z), parts-natAbs (negℤ z), pp-neg, nn-neg, parts-natAbs z) (omega arith)
 
-pub negated-nonneg : (z : ℤ) → ltZ z (pos 0) ≡ true → T (nonNeg (pos 0 -ℤ z))
-negated-nonneg (pos n) e = absurd (omega (arith, ltb-true n 0 e))
-negated-nonneg (negsuc n) e = tt
-
 pub nonneg : (z : ℤ) → ltZ z (pos 0) ≡ false → T (nonNeg z)
 nonneg (pos n) e = tt
 nonneg (negsuc n) e = subst T e tt
@@ -252,7 +248,7 @@ same-bits {w} {a} {b} fa fb e = sym (toZ-ofZ w a fa) ∙ ap (toZ w) e ∙ toZ-of
 
 -- the machine divides what it reads back from the bits of two numbers that fit: what that asks, and what it gives
 module _ {w : Width} {z d : ℤ} (fz : SFits w z) (fd : SFits w d) (h : pos 0 <ℤ d) where
-  quot-read : quotZ (toZ w (ofZ w z)) (toZ w (ofZ w d)) ≡ quotZ z d
+  pub quot-read : quotZ (toZ w (ofZ w z)) (toZ w (ofZ w d)) ≡ quotZ z d
   quot-read = λ i. quotZ (toZ-ofZ w z fz i) (toZ-ofZ w d fd i)
 
   rem-read : remZ (toZ w (ofZ w z)) (toZ w (ofZ w d)) ≡ remZ z d

@@ -1,6 +1,8 @@
 -- Identities and orders of signed whole numbers, each in one line.
--- `ring` proves an identity: both sides are quoted by `search`, brought to a sorted list of monomials, and compared by `refl`.
--- `given` and `order` turn an order of two quoted numbers into one of natural numbers over the parts of the monomials, which omega reads.
+-- `ring` proves an identity: both sides are quoted by `search`, brought to a sorted list of monomials,
+-- and compared by `refl`.
+-- `given` and `order` turn an order of two quoted numbers into one of natural numbers over the parts of the
+-- monomials, which omega reads.
 use mathlib.Core.Path.{_≡_, refl, sym, _∙_, ap, ap₂}
 use mathlib.Core.Bool.{Bool, true, false, cond, _&&_}
 use mathlib.Core.List.{List, [], _∷_}
@@ -10,7 +12,7 @@ use lib.IntN.{ℤ, pos, negsuc, negℤ, _+ℤ_, _-ℤ_, _*ℤ_, +ℤ-assoc, +ℤ
 use lib.Signed.{_≤ℤ_, _<ℤ_}
 use lib.ListN.{getD}
 use lib.Dec.{T, leb, eqb, eqb→eq}
-use Rattle.algebra.proofs.Whole.{pp, nn, parts-+, pp-*, nn-*, pp-neg, nn-neg, by-parts, le-parts, parts-le, lt-parts, parts-lt, *ℤ-assoc, *ℤ-+ℤ, +ℤ-*ℤ, negℤ-*ℤ, one-*ℤ, square-nonneg}
+use Rattle.algebra.proofs.Whole.{pp, nn, parts-+, pp-*, nn-*, pp-neg, nn-neg, by-parts, le-parts, parts-le, lt-parts, parts-lt, *ℤ-assoc, *ℤ-+ℤ, +ℤ-*ℤ, negℤ-*ℤ, one-*ℤ}
 
 -- ---- numbers as they are written over a list of atoms
 
@@ -127,7 +129,8 @@ norm (negnum {n}) = constant (negsuc n)
 
 -- ---- each keeps the value
 
-and-parts : (a b : Bool) → T (a && b) → T a × T b
+-- two tests that both pass
+pub and-parts : (a b : Bool) → T (a && b) → T a × T b
 and-parts true true h = (tt, tt)
 and-parts true false h = absurd h
 and-parts false b h = absurd h
@@ -305,20 +308,3 @@ module _ (ρ : List ℤ) {a b : ℤ} (p : Quote ρ a) (q : Quote ρ b) where
 -- an order by a certificate: b is a and something that is not below zero
 pub le-by : {a b s : ℤ} → pos 0 ≤ℤ s → b ≡ a +ℤ s → a ≤ℤ b
 le-by {a} {b} {s} h e = parts-le (omega (arith, le-parts h, parts-+ a s, ap pp e, ap nn e))
-
--- ---- examples
-
-square-of-sum : (a b : ℤ) → (a +ℤ b) *ℤ (a +ℤ b) ≡ a *ℤ a +ℤ pos 2 *ℤ a *ℤ b +ℤ b *ℤ b
-square-of-sum a b = ring (a ∷ b ∷ []) (search quotes depth 12) (search quotes depth 12) refl
-
-degree-three : (a b c x y z : ℤ) → (a +ℤ b -ℤ c) *ℤ (x +ℤ y) *ℤ (z -ℤ a) ≡ z *ℤ (x *ℤ a +ℤ x *ℤ b -ℤ x *ℤ c +ℤ (a +ℤ b -ℤ c) *ℤ y) -ℤ a *ℤ (a +ℤ b -ℤ c) *ℤ (y +ℤ x)
-degree-three a b c x y z = ring (a ∷ b ∷ c ∷ x ∷ y ∷ z ∷ []) (search quotes depth 12) (search quotes depth 12) refl
-
-from-two-facts : (a b x y : ℤ) → a ≤ℤ b → (x *ℤ y) <ℤ b → (a +ℤ y *ℤ x) <ℤ (pos 2 *ℤ b)
-from-two-facts a b x y h k =
-    let ρ : List ℤ = a ∷ b ∷ x ∷ y ∷ [] in
-    lt-goal ρ (search quotes depth 12) (search quotes depth 12)
-    (omega (arith, le-given ρ (search quotes depth 12) (search quotes depth 12) h, lt-given ρ (search quotes depth 12) (search quotes depth 12) k))
-
-twice-product : (a b : ℤ) → (pos 2 *ℤ a *ℤ b) ≤ℤ (a *ℤ a +ℤ b *ℤ b)
-twice-product a b = le-by (square-nonneg (a -ℤ b)) (ring (a ∷ b ∷ []) (search quotes depth 12) (search quotes depth 12) refl)

@@ -1,21 +1,22 @@
 -- Finite sums of signed whole numbers: congruence, linearity, order, exchange, and one term among the others.
--- `sums`, at the end, gathers a combination of sums over one range into one sum, so that an identity of sums is one of its terms.
+-- `sums`, at the end, gathers a combination of sums over one range into one sum,
+-- so that an identity of sums is one of its terms.
 use mathlib.Core.Path.{_≡_, refl, sym, _∙_, ap, ap₂}
 use mathlib.Core.Logic.{_⊎_, inl, inr, ⊎-elim}
-use mathlib.Core.Bool.{cond}
-use mathlib.Core.List.{List, [], _∷_}
+use mathlib.Core.List.{[], _∷_}
 use Prim.Native.Nat.{ℕ, zero, suc, _+_, _*_, _≤_, _<_}
 use native.Mathlib.Omega.{arith}
 use native.Mathlib.Numerals.{add-one}
 use native.Mathlib.Nat.{add-zero, add-suc}
 use native.Mathlib.Decide.{decLt}
-use lib.IntN.{ℤ, pos, negℤ, natAbs, _+ℤ_, _-ℤ_, _*ℤ_, +ℤ-assoc, +ℤ-comm, negℤ-+ℤ, +ℤ-idl, +ℤ-idr, *ℤ-comm, *ℤ-zero, zero-*ℤ}
-use lib.Signed.{_≤ℤ_, _<ℤ_}
+use lib.IntN.{ℤ, pos, negℤ, natAbs, _+ℤ_, _-ℤ_, _*ℤ_, +ℤ-assoc, negℤ-+ℤ, +ℤ-idl, +ℤ-idr, *ℤ-comm, *ℤ-zero, zero-*ℤ}
+use lib.Signed.{_≤ℤ_}
 use lib.Dec.{eqb}
 use borrow.Author.Tests.{eq-eqb, ne-eqb}
 use Rattle.algebra.specs.Sum.{sum, ind}
-use Rattle.algebra.proofs.Whole.{pp, nn, parts-+, one-part, parts-natAbs, le-parts, parts-le, le-trans, le-antisym, le-of-eq, +ℤ-le, *ℤ-+ℤ, one-*ℤ, square-nonneg}
-use Rattle.algebra.proofs.Ring.{ring, quotes, le-given, lt-given, eq-given, le-goal, lt-goal, eq-goal, le-by}
+use Rattle.algebra.proofs.Whole.{parts-+, le-parts, parts-le, le-trans, le-antisym, le-of-eq, +ℤ-le, *ℤ-+ℤ, one-*ℤ}
+use Rattle.algebra.proofs.Ring.{ring, quotes}
+use Rattle.algebra.proofs.Quotient.{natAbs-+}
 
 -- ---- the two clauses as equations
 
@@ -30,7 +31,7 @@ unfolding sum
 sum-last n f = refl
 
 -- an index of one more term is the last or one of the others
-last-or-below : (i n : ℕ) → i < suc n → (i ≡ n) ⊎ (i < n)
+pub last-or-below : (i n : ℕ) → i < suc n → (i ≡ n) ⊎ (i < n)
 last-or-below i n h = go (decLt i n)
   where
     go : Dec (i < n) → (i ≡ n) ⊎ (i < n)
@@ -150,23 +151,6 @@ sum-term-le (suc n) f h i l =
 pub sum-nonneg-zero : (n : ℕ) (f : ℕ → ℤ) → ((i : ℕ) → i < n → pos 0 ≤ℤ f i) → sum n f ≤ℤ pos 0 → (i : ℕ) → i < n → f i ≡ pos 0
 sum-nonneg-zero n f h z i l = le-antisym (le-trans (sum-term-le n f h i l) z) (h i l)
 
-gap-nonneg : {a b : ℤ} → a ≤ℤ b → pos 0 ≤ℤ (b -ℤ a)
-gap-nonneg {a} {b} h =
-    let ρ : List ℤ = a ∷ b ∷ [] in
-    le-goal ρ (search quotes depth 12) (search quotes depth 12) (omega (arith, le-given ρ (search quotes depth 12) (search quotes depth 12) h))
-
-gap-lt : (a b s t : ℤ) → a <ℤ b → (b -ℤ a) ≤ℤ (t -ℤ s) → s <ℤ t
-gap-lt a b s t h k =
-    let ρ : List ℤ = a ∷ b ∷ s ∷ t ∷ [] in
-    lt-goal ρ (search quotes depth 12) (search quotes depth 12)
-    (omega (arith, lt-given ρ (search quotes depth 12) (search quotes depth 12) h, le-given ρ (search quotes depth 12) (search quotes depth 12) k))
-
--- one term is larger and none is smaller
-pub sum-lt : (n : ℕ) (f g : ℕ → ℤ) → ((i : ℕ) → i < n → f i ≤ℤ g i) → (k : ℕ) → k < n → f k <ℤ g k → sum n f <ℤ sum n g
-sum-lt n f g h k l s =
-    gap-lt (f k) (g k) (sum n f) (sum n g) s
-    (rw (sum-- n g f) at (sum-term-le n (λ i. g i -ℤ f i) (λ i j. gap-nonneg (h i j)) k l))
-
 -- ---- one term among the others
 
 last-changed : (s a b : ℤ) → s +ℤ b ≡ s +ℤ a +ℤ (b -ℤ a)
@@ -194,14 +178,6 @@ sum-one-term n f k l e =
     sum-change n (λ _. pos 0) f k l (λ i h d. sym (e i h d)) ∙ ap (λ x. x +ℤ (f k -ℤ pos 0)) (sum-zero n (λ _. pos 0) (λ _ _. refl))
     ∙ +ℤ-idl (f k -ℤ pos 0) ∙ +ℤ-idr (f k)
 
--- one term apart
-pub sum-split-at : (n : ℕ) (f : ℕ → ℤ) (k : ℕ) → k < n → sum n f ≡ f k +ℤ sum n (λ i. cond (eqb i k) (pos 0) (f i))
-sum-split-at n f k l =
-    let z : ℕ → ℤ = λ i. cond (eqb i k) (pos 0) (f i) in
-    sum-change n z f k l (λ i _ d. ap (λ b. cond b (pos 0) (f i)) (ne-eqb i k d))
-    ∙ ap (λ b. sum n z +ℤ (f k -ℤ cond b (pos 0) (f k))) (eq-eqb k k refl)
-    ∙ ap (λ x. sum n z +ℤ x) (+ℤ-idr (f k)) ∙ +ℤ-comm (sum n z) (f k)
-
 off : (f : ℕ → ℤ) (i k : ℕ) → (i ≡ k → ⊥) → ind (eqb i k) *ℤ f i ≡ pos 0
 off f i k d = ap (λ b. ind b *ℤ f i) (ne-eqb i k d) ∙ zero-*ℤ (f i)
 
@@ -210,19 +186,7 @@ pub sum-ind : (n : ℕ) (f : ℕ → ℤ) (k : ℕ) → k < n → sum n (λ i. i
 sum-ind n f k l =
     sum-one-term n (λ i. ind (eqb i k) *ℤ f i) k l (λ i _. off f i k) ∙ ap (λ b. ind b *ℤ f k) (eq-eqb k k refl) ∙ one-*ℤ (f k)
 
--- or nothing, where the index is not in the range
-pub sum-ind-none : (n : ℕ) (f : ℕ → ℤ) (k : ℕ) → n ≤ k → sum n (λ i. ind (eqb i k) *ℤ f i) ≡ pos 0
-sum-ind-none n f k l = sum-zero n (λ i. ind (eqb i k) *ℤ f i) (λ i h. off f i k (λ p. omega arith))
-
 -- ---- magnitude
-
--- the magnitude of a sum of two
-pub natAbs-+ : (a b : ℤ) → natAbs (a +ℤ b) ≤ natAbs a + natAbs b
-natAbs-+ a b =
-    ⊎-elim
-    (λ (e : nn (a +ℤ b) ≡ 0). omega (arith, parts-+ a b, parts-natAbs a, parts-natAbs b, parts-natAbs (a +ℤ b)))
-    (λ (e : pp (a +ℤ b) ≡ 0). omega (arith, parts-+ a b, parts-natAbs a, parts-natAbs b, parts-natAbs (a +ℤ b)))
-    (one-part (a +ℤ b))
 
 -- terms within a bound
 pub sum-bound : (n : ℕ) (f : ℕ → ℤ) (B : ℕ) → ((i : ℕ) → i < n → natAbs (f i) ≤ B) → natAbs (sum n f) ≤ n * B
@@ -232,46 +196,9 @@ sum-bound (suc n) f B h = omega (arith, natAbs-+ (sum n f) (f n), sum-bound n f 
 
 -- ---- identities of sums
 
--- From a combination of sums over one range to one sum. The equations run to the left: there each function stands bare, and `simp` finds it.
+-- From a combination of sums over one range to one sum.
+-- The equations run to the left: there each function stands bare, and `simp` finds it.
 -- A difference needs none of its own: `a -ℤ b` computes to `a +ℤ negℤ b`.
--- An identity: `simp sums (sum-cong n _ _ (λ i h. ring (.. ∷ []) (search quotes depth 12) (search quotes depth 12) refl))`.
+-- An identity is `simp sums (sum-cong n _ _ (λ i h. ..))`, with a `ring` for the terms.
 -- With sum-zero where one side is zero, sum-le for an order, sum-cong2 or sum-swap-cong for sums in sums.
 pub ruleset sums = (← sum-+, ← sum-neg, ← sum-*, ← sum-*r)
-
--- ---- examples
-
-sum-lin : (n : ℕ) (a b : ℤ) (f g : ℕ → ℤ) → a *ℤ sum n f +ℤ b *ℤ sum n g -ℤ sum n f ≡ sum n (λ i. (a -ℤ pos 1) *ℤ f i) +ℤ sum n g *ℤ b
-sum-lin n a b f g =
-    simp sums (sum-cong n _ _ (λ i _. ring (a ∷ b ∷ f i ∷ g i ∷ []) (search quotes depth 12) (search quotes depth 12) refl))
-
--- with a fact of each term
-sum-fact : (n : ℕ) (a : ℤ) (f g : ℕ → ℤ) → ((i : ℕ) → i < n → f i ≡ a *ℤ g i) → sum n f -ℤ a *ℤ sum n g ≡ pos 0
-sum-fact n a f g e =
-    simp sums
-    (sum-zero n _ (λ i h. rw (e i h) (ring (a ∷ g i ∷ []) (search quotes depth 12) (search quotes depth 12) refl)))
-
--- an order
-sum-twice-product : (n : ℕ) (f g : ℕ → ℤ) → (pos 2 *ℤ sum n (λ i. f i *ℤ g i)) ≤ℤ (sum n (λ i. f i *ℤ f i) +ℤ sum n (λ i. g i *ℤ g i))
-sum-twice-product n f g =
-    simp sums
-    (sum-le n _ _ (λ i _. le-by (square-nonneg (f i -ℤ g i)) (ring (f i ∷ g i ∷ []) (search quotes depth 12) (search quotes depth 12) refl)))
-
--- sums in sums
-sum-bilinear : (n m : ℕ) (x y : ℕ → ℤ) (a : ℕ → ℕ → ℤ) → sum n (λ i. x i *ℤ sum m (λ j. a i j *ℤ y j)) ≡ sum m (λ j. sum n (λ i. a i j *ℤ x i) *ℤ y j)
-sum-bilinear n m x y a =
-    simp sums
-    (sum-swap-cong n m _ _ (λ i j _ _. ring (x i ∷ y j ∷ a i j ∷ []) (search quotes depth 12) (search quotes depth 12) refl))
-
--- beside a number that is no sum: split the sums, which are then atoms
-sum-beside : (n : ℕ) (c : ℤ) (f g : ℕ → ℤ) → sum n f +ℤ c +ℤ sum n g ≡ c +ℤ sum n (λ i. f i +ℤ g i)
-sum-beside n c f g =
-    rw (sum-+ n f g) (ring (c ∷ sum n f ∷ sum n g ∷ []) (search quotes depth 12) (search quotes depth 12) refl)
-
--- or show the sums' own identity first, and give it to omega
-sum-aside : (n : ℕ) (c a : ℤ) (f g : ℕ → ℤ) → sum n (λ i. f i *ℤ (g i +ℤ a)) +ℤ c -ℤ a *ℤ sum n f ≡ c +ℤ sum n (λ i. g i *ℤ f i)
-sum-aside n c a f g =
-    let s = sum n (λ i. f i *ℤ (g i +ℤ a)) in
-    let t = sum n (λ i. g i *ℤ f i) in
-    let e : s -ℤ a *ℤ sum n f ≡ t = simp sums (sum-cong n _ _ (λ i _. ring (a ∷ f i ∷ g i ∷ []) (search quotes depth 12) (search quotes depth 12) refl)) in
-    let ρ : List ℤ = s ∷ t ∷ sum n f ∷ a ∷ c ∷ [] in
-    eq-goal ρ (search quotes depth 12) (search quotes depth 12) (omega (arith, eq-given ρ (search quotes depth 12) (search quotes depth 12) e))

@@ -1,6 +1,7 @@
 -- The ordered ring of signed whole numbers: the laws that lib.IntN and lib.Signed lack.
--- A number is read as the difference of two natural numbers, `pp z` less `nn z`. A law of ℤ is then one of sums and products in ℕ,
--- which omega proves; no lemma after the first section goes by the signs of its arguments.
+-- A number is read as the difference of two natural numbers, `pp z` less `nn z`.
+-- A law of ℤ is then one of sums and products in ℕ, which omega proves;
+-- no lemma after the first section goes by the signs of its arguments.
 use mathlib.Core.Path.{_≡_, refl, sym, _∙_, ap}
 use mathlib.Core.Logic.{_⊎_, inl, inr, ⊎-elim}
 use mathlib.Core.Bool.{Bool, true, false, cond}
@@ -8,7 +9,7 @@ use Prim.Native.Nat.{ℕ, zero, suc, _+_, _*_, _-_, _≤_, _<_}
 use native.Mathlib.Omega.{arith}
 use native.Mathlib.Nat.{mul-le-mul-left, le-of-mul-le-mul-left, mul-lt-mul-of-pos-left}
 use native.Mathlib.Decide.{decLe}
-use lib.IntN.{ℤ, pos, negsuc, negℤ, natAbs, _+ℤ_, _*ℤ_, *ℤ-comm, *ℤ-zero, subℕ}
+use lib.IntN.{ℤ, pos, negsuc, negℤ, natAbs, _+ℤ_, _-ℤ_, _*ℤ_, *ℤ-comm, *ℤ-zero, subℕ}
 use lib.Signed.{_≤ℤ_, _<ℤ_}
 use lib.Dec.{ltb, leb→le, le→leb, ltb→lt, lt→ltb}
 use borrow.Author.Tests.{ltb-true, ltb-false}
@@ -152,6 +153,13 @@ le-or-lt a b = go (decLe (pp a + nn b) (pp b + nn a))
 -- with sums
 pub +ℤ-le : {a b c d : ℤ} → a ≤ℤ b → c ≤ℤ d → (a +ℤ c) ≤ℤ (b +ℤ d)
 +ℤ-le {a} {b} {c} {d} h k = parts-le (omega (arith, le-parts h, le-parts k, parts-+ a c, parts-+ b d))
+
+-- with differences
+pub sub-nonneg : {a b : ℤ} → a ≤ℤ b → pos 0 ≤ℤ (b -ℤ a)
+sub-nonneg {a} {b} h = parts-le (omega (arith, le-parts h, parts-+ b (negℤ a), pp-neg a, nn-neg a))
+
+pub sub-above : {a b : ℤ} → a <ℤ b → pos 0 <ℤ (b -ℤ a)
+sub-above {a} {b} h = parts-lt (omega (arith, lt-parts h, parts-+ b (negℤ a), pp-neg a, nn-neg a))
 
 -- with products by a number that is not below zero
 pub no-nn : {c : ℤ} → pos 0 ≤ℤ c → nn c ≡ 0

@@ -1,261 +1,18 @@
-// Lays out the bench sheets of document 01 that have no P, each from several carried records, and prints places, multipliers, marks and rings.
+// Lays out the bench sheets of document 01 that have no P, each from three carried records, and prints places,
+// multipliers, marks and rings. Each sheet has a line with its name in front and a byte 0, which no sheet has,
+// behind.
 use ground::Answer;
+use ground::Refusal;
+use ground::limits::GAPS;
+use ground::limits::GapBytes;
+use ground::limits::LABELS;
 use ground::signs::magnitude;
 use layout::lists::lay_out;
-
-// The ends of the chain's gaps, and those of a ring through all labels with its distances.
-const LEFT: [usize; 47] = [
-    0,
-    1,
-    2,
-    3,
-    4,
-    5,
-    6,
-    7,
-    8,
-    9,
-    10,
-    11,
-    12,
-    13,
-    14,
-    15,
-    16,
-    17,
-    18,
-    19,
-    20,
-    21,
-    22,
-    23,
-    24,
-    25,
-    26,
-    27,
-    28,
-    29,
-    30,
-    31,
-    32,
-    33,
-    34,
-    35,
-    36,
-    37,
-    38,
-    39,
-    40,
-    41,
-    42,
-    43,
-    44,
-    45,
-    46,
-];
-
-const RIGHT: [usize; 47] = [
-    1,
-    2,
-    3,
-    4,
-    5,
-    6,
-    7,
-    8,
-    9,
-    10,
-    11,
-    12,
-    13,
-    14,
-    15,
-    16,
-    17,
-    18,
-    19,
-    20,
-    21,
-    22,
-    23,
-    24,
-    25,
-    26,
-    27,
-    28,
-    29,
-    30,
-    31,
-    32,
-    33,
-    34,
-    35,
-    36,
-    37,
-    38,
-    39,
-    40,
-    41,
-    42,
-    43,
-    44,
-    45,
-    46,
-    47,
-];
-
-const AROUND_LEFT: [usize; 48] = [
-    0,
-    1,
-    2,
-    3,
-    4,
-    5,
-    6,
-    7,
-    8,
-    9,
-    10,
-    11,
-    12,
-    13,
-    14,
-    15,
-    16,
-    17,
-    18,
-    19,
-    20,
-    21,
-    22,
-    23,
-    24,
-    25,
-    26,
-    27,
-    28,
-    29,
-    30,
-    31,
-    32,
-    33,
-    34,
-    35,
-    36,
-    37,
-    38,
-    39,
-    40,
-    41,
-    42,
-    43,
-    44,
-    45,
-    46,
-    47,
-];
-
-const AROUND_RIGHT: [usize; 48] = [
-    1,
-    2,
-    3,
-    4,
-    5,
-    6,
-    7,
-    8,
-    9,
-    10,
-    11,
-    12,
-    13,
-    14,
-    15,
-    16,
-    17,
-    18,
-    19,
-    20,
-    21,
-    22,
-    23,
-    24,
-    25,
-    26,
-    27,
-    28,
-    29,
-    30,
-    31,
-    32,
-    33,
-    34,
-    35,
-    36,
-    37,
-    38,
-    39,
-    40,
-    41,
-    42,
-    43,
-    44,
-    45,
-    46,
-    47,
-    0,
-];
-
-const AROUND: [i64; 48] = [
-    1,
-    0,
-    0,
-    0,
-    0,
-    0,
-    0,
-    0,
-    0,
-    0,
-    0,
-    0,
-    0,
-    0,
-    0,
-    0,
-    0,
-    0,
-    0,
-    0,
-    0,
-    0,
-    0,
-    0,
-    0,
-    0,
-    0,
-    0,
-    0,
-    0,
-    0,
-    0,
-    0,
-    0,
-    0,
-    0,
-    0,
-    0,
-    0,
-    0,
-    0,
-    0,
-    0,
-    0,
-    0,
-    0,
-    0,
-    0,
-];
+use text_reading::Reading;
+use text_reading::read::read_sheet;
+ghost use Prim.Native.Nat.{_≤_};
+ghost use lib.ListN.{length};
+ghost use Rattle.ground.specs.Views.{before};
 
 // Writes a fraction: a space, the numerator, and the denominator where it is not 1.
 fn print_fraction(num: i64, den: i64) {
@@ -270,7 +27,7 @@ fn print_fraction(num: i64, den: i64) {
     }
 }
 
-// Writes fractions in a line.
+// Writes the first fractions in a line.
 fn print_fractions(count: usize, num: &[i64], den: &[i64]) {
     let mut i: usize = 0;
     while i < count {
@@ -285,18 +42,33 @@ fn print_fractions(count: usize, num: &[i64], den: &[i64]) {
 }
 
 // Writes the numbers of the marked gaps in a line.
-fn print_marks(count: usize, carried: &[u8]) {
+fn print_marks(carried: &[u8]) {
     let mut e: usize = 0;
-    while e < count {
-        if e < carried.len() {
-            if carried[e] == 1 {
-                io::write_all(1, b" ");
-                io::print_decimal(1, e as u64);
-            }
+    while e < carried.len() {
+        if carried[e] == 1 {
+            io::write_all(1, b" ");
+            io::print_decimal(1, e as u64);
         }
         e += 1;
     }
     io::write_all(1, b"\n");
+}
+
+// Writes the places of so many labels, the multipliers of all gaps, and the marks.
+fn print_placed(
+    labels: usize,
+    place_num: &[i64],
+    place_den: &[i64],
+    mult_num: &[i64],
+    mult_den: &[i64],
+    carried: &[u8],
+) {
+    io::write_all(1, b"  places");
+    print_fractions(labels, place_num, place_den);
+    io::write_all(1, b"  multipliers");
+    print_fractions(carried.len(), mult_num, mult_den);
+    io::write_all(1, b"  marks");
+    print_marks(carried);
 }
 
 // Writes the gap numbers of a ring in a line.
@@ -312,274 +84,159 @@ fn print_ring(count: usize, ring: &[usize]) {
     io::write_all(1, b"\n");
 }
 
-// Fills a carried record: zeros, ones, or bytes that follow no rule of the marks.
-fn fill(way: u8, carried: &mut [u8]) {
-    let mut e: usize = 0;
-    while e < carried.len() {
-        if way == 0 {
-            carried[e] = 0;
-        } else if way == 1 {
-            carried[e] = 1;
-        } else {
-            carried[e] = ((e % 5 * 7 + 3) % 5) as u8;
-        }
-        e += 1;
-    }
+// Writes a refusal with its ring.
+fn print_refusal(refusal: Refusal, ring: &[usize]) {
+    io::write_all(1, b"  refused ");
+    io::print_decimal(1, refusal.number as u64);
+    io::write_all(1, b" at ");
+    io::print_decimal(1, refusal.place as u64);
+    io::write_all(1, b", ring");
+    print_ring(refusal.ring, ring);
 }
 
-// Writes what a call answered and left.
-fn print_answer(
-    answer: Answer,
-    labels: usize,
-    gaps: usize,
-    place_num: &[i64],
-    place_den: &[i64],
-    mult_num: &[i64],
-    mult_den: &[i64],
-    ring: &[usize],
-    carried: &[u8],
-) {
-    match answer {
-        Answer::Placed => {
-            io::write_all(1, b"  places");
-            print_fractions(labels, place_num, place_den);
-            io::write_all(1, b"  multipliers");
-            print_fractions(gaps, mult_num, mult_den);
-            io::write_all(1, b"  marks");
-            print_marks(gaps, carried);
-        }
-        Answer::Refused(r) => {
-            io::write_all(1, b"  refused ");
-            io::print_decimal(1, r.number as u64);
-            io::write_all(1, b" at ");
-            io::print_decimal(1, r.place as u64);
-            io::write_all(1, b", ring");
-            print_ring(r.ring, ring);
-        }
-    }
-}
-
-// Lays a sheet out from one carried record.
+// Lays a sheet out from a carried record, and prints what is answered and left.
 fn show(
-    way: u8,
+    carried: &mut [u8],
     wanted: &[i64],
     weight: &[i64],
     left: &[usize],
     right: &[usize],
     distance: &[i64],
 ) {
-    let labels = wanted.len();
-    let gaps = left.len();
-    let mut place_num = [0i64; 48];
-    let mut place_den = [0i64; 48];
-    let mut mult_num = [0i64; 192];
-    let mut mult_den = [0i64; 192];
-    let mut ring = [0usize; 48];
-    let mut carried = [0u8; 192];
-    if 192 < gaps {
-        return;
-    }
-    fill(way, &mut carried);
+    let mut place_num = [0i64; LABELS];
+    let mut place_den = [0i64; LABELS];
+    let mut mult_num = [0i64; GAPS];
+    let mut mult_den = [0i64; GAPS];
+    let mut ring = [0usize; LABELS];
     let answer = lay_out(
         wanted,
         weight,
         left,
         right,
         distance,
-        &mut carried[..gaps],
+        carried,
         &mut place_num,
         &mut place_den,
         &mut mult_num,
         &mut mult_den,
         &mut ring,
     );
-    print_answer(
-        answer,
-        labels,
-        gaps,
-        &place_num,
-        &place_den,
-        &mult_num,
-        &mult_den,
-        &ring,
-        &carried,
-    );
+    match answer {
+        Answer::Placed => print_placed(
+            wanted.len(),
+            &place_num,
+            &place_den,
+            &mult_num,
+            &mult_den,
+            carried,
+        ),
+        Answer::Refused(refusal) => print_refusal(refusal, &ring),
+    }
+}
+
+// A carried record of bytes that follow no rule of the marks.
+fn other_bytes() -> GapBytes {
+    let mut record = [0u8; GAPS];
+    let mut e: usize = 0;
+    while e < GAPS {
+        record[e] = ((e % 5 * 7 + 3) % 5) as u8;
+        e += 1;
+    }
+    record
 }
 
 // Lays a sheet out from records of zeros, of ones and of other bytes.
-fn bench(
-    name: &[u8],
-    wanted: &[i64],
-    weight: &[i64],
-    left: &[usize],
-    right: &[usize],
-    distance: &[i64],
-) {
-    io::write_all(1, name);
-    io::write_all(1, b"\n");
-    show(0, wanted, weight, left, right, distance);
-    show(1, wanted, weight, left, right, distance);
-    show(2, wanted, weight, left, right, distance);
+fn show_thrice(wanted: &[i64], weight: &[i64], left: &[usize], right: &[usize], distance: &[i64]) {
+    let gaps = left.len();
+    if GAPS < gaps {
+        return;
+    }
+    let mut zeros = [0u8; GAPS];
+    let mut ones = [1u8; GAPS];
+    let mut others = other_bytes();
+    show(&mut zeros[..gaps], wanted, weight, left, right, distance);
+    show(&mut ones[..gaps], wanted, weight, left, right, distance);
+    show(&mut others[..gaps], wanted, weight, left, right, distance);
 }
 
-// The longest chain.
-fn chain() {
-    bench(
-        b"48 labels wanted at 200,000, chained by gaps of 20,000",
-        &[200000i64; 48],
-        &[1i64; 48],
-        &LEFT,
-        &RIGHT,
-        &[20000i64; 47],
+// Reads a sheet's text and lays it out. Every text of the bench is a sheet.
+fn show_text(text: &[u8]) {
+    let mut wanted = [0i64; LABELS];
+    let mut weight = [0i64; LABELS];
+    let mut left = [0usize; GAPS];
+    let mut right = [0usize; GAPS];
+    let mut distance = [0i64; GAPS];
+    let found = read_sheet(
+        text,
+        &mut wanted,
+        &mut weight,
+        &mut left,
+        &mut right,
+        &mut distance,
     );
-}
-
-// Equalities, duplicates, self gaps.
-fn pairs() {
-    bench(
-        b"an equality by two opposite gaps, pulled apart",
-        &[0i64, 100, 30],
-        &[1i64, 2, 3],
-        &[0usize, 1, 1],
-        &[1usize, 0, 2],
-        &[7i64, -7, 5],
-    );
-    bench(
-        b"the same gap twice",
-        &[0i64, 0],
-        &[1i64, 3],
-        &[0usize, 0],
-        &[1usize, 1],
-        &[9i64, 9],
-    );
-    bench(
-        b"self gaps of 0 and -5",
-        &[3i64, -4],
-        &[2i64, 1],
-        &[0usize, 1],
-        &[0usize, 1],
-        &[0i64, -5],
-    );
-    bench(
-        b"a self gap of 1",
-        &[3i64],
-        &[2i64],
-        &[0usize],
-        &[0usize],
-        &[1i64],
+    let Reading::Sheet(counts) = found else {
+        return;
+    };
+    let labels = counts.labels;
+    let gaps = counts.gaps;
+    if LABELS < labels {
+        return;
+    }
+    if GAPS < gaps {
+        return;
+    }
+    show_thrice(
+        &wanted[..labels],
+        &weight[..labels],
+        &left[..gaps],
+        &right[..gaps],
+        &distance[..gaps],
     );
 }
 
-// Gaps that cross and gaps that are split.
-fn crossings() {
-    bench(
-        b"negative gaps: labels may cross by one",
-        &[2i64, -2, 0],
-        &[1i64, 1, 1],
-        &[0usize, 1, 2],
-        &[1usize, 2, 0],
-        &[-1i64, -1, -1],
-    );
-    bench(
-        b"three gaps, of which the longest alone holds tight",
-        &[0i64, 0, 0],
-        &[1i64, 1, 1],
-        &[0usize, 1, 0],
-        &[1usize, 2, 2],
-        &[2i64, 2, 10],
-    );
+// Where the first line ends.
+fn after_name(entry: &[u8]) -> usize
+    ensures { λ r. ⌜ r ≤ length (before entry) ⌝ }
+{
+    let mut k: usize = 0;
+    while k < entry.len() {
+        if entry[k] == b'\n' {
+            return k + 1;
+        }
+        k += 1;
+    }
+    k
 }
 
-// The longest rings.
-fn rings() {
-    bench(
-        b"a ring of 48 gaps that sums to 1",
-        &[0i64; 48],
-        &[1i64; 48],
-        &AROUND_LEFT,
-        &AROUND_RIGHT,
-        &AROUND,
-    );
-    bench(
-        b"a ring of 48 gaps that sums to 0",
-        &[0i64; 48],
-        &[1i64; 48],
-        &AROUND_LEFT,
-        &AROUND_RIGHT,
-        &[0i64; 48],
-    );
+// Prints a sheet's name, and what is answered to it.
+fn show_entry(entry: &[u8]) {
+    let at = after_name(entry);
+    io::write_all(1, &entry[..at]);
+    show_text(&entry[at..]);
 }
 
-// Limits that are taken, and one past each.
-fn limits() {
-    bench(b"no labels", &[], &[], &[], &[], &[]);
-    bench(
-        b"wanted at 200,000 is taken",
-        &[200000i64],
-        &[100i64],
-        &[],
-        &[],
-        &[],
-    );
-    bench(
-        b"wanted at 200,001 is 5",
-        &[0i64, 200001],
-        &[1i64, 1],
-        &[],
-        &[],
-        &[],
-    );
-    bench(
-        b"weights 0 and 101 are 6",
-        &[0i64, 0, 0],
-        &[1i64, 0, 101],
-        &[],
-        &[],
-        &[],
-    );
+// Takes the sheets apart.
+fn show_all(sheets: &[u8]) {
+    let mut start: usize = 0;
+    let mut at: usize = 0;
+    while at < sheets.len() {
+        if sheets[at] == 0 {
+            show_entry(&sheets[start..at]);
+            start = at + 1;
+        }
+        at += 1;
+    }
 }
 
-// Sheets with faults: the first check decides.
-fn faults() {
-    bench(
-        b"a wrong weight and a stranger together are 6",
-        &[0i64, 0],
-        &[1i64, 101],
-        &[0usize],
-        &[2usize],
-        &[1i64],
-    );
-    bench(
-        b"any gap on a sheet of no labels is 7",
-        &[],
-        &[],
-        &[0usize],
-        &[0usize],
-        &[0i64],
-    );
-    bench(
-        b"a gap of -20,001 is 8",
-        &[0i64, 0],
-        &[1i64, 1],
-        &[0usize, 0],
-        &[1usize, 1],
-        &[-20000i64, -20001],
-    );
-    bench(
-        b"lists that differ in length are 3",
-        &[0i64, 0],
-        &[1i64],
-        &[],
-        &[],
-        &[],
-    );
+// The one bench sheet that no text can tell: its lists differ in length.
+fn show_unequal() {
+    io::write_all(1, b"lists that differ in length are 3\n");
+    show_thrice(&[0i64, 0], &[1i64], &[], &[], &[]);
 }
 
 fn main() {
-    chain();
-    pairs();
-    crossings();
-    rings();
-    limits();
-    faults();
+    let mut sheets = io::large_buffer();
+    let got = io::read_full(0, &mut sheets);
+    show_all(&sheets[..got]);
+    show_unequal();
 }

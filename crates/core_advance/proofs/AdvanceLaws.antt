@@ -32,7 +32,7 @@ use Rattle.core_breaking.specs.Breaking.{over, nearerOf, candidateOf}
 use Rattle.core_breaking.specs.Decide.{meetingOf, beforeTight, againstTight, decided, withinBlock}
 use Rattle.core_forest.specs.Problem.{Problem, Limits, kindOf, marksOf, numbersOf, IsForest}
 use Rattle.core_advance.specs.Side.{SideFound}
-use Rattle.core_advance.specs.Advance.{GapDropped, GapReached, Blocked, Gives}
+use Rattle.core_advance.specs.Advance.{GapDropped, GapReached, Blocked, Gives, SearchedFrom}
 use Rattle.core_breaking.proofs.BreakingPoints.{NoLater, Above0, Each, no-later-trans, nearer-one, nearer-first, nearer-second, nearer-none, nearer-above0, cross, here-above0, breaks-at, Least, least-at, least-above0, least-no-later, least-none}
 use Rattle.core_elimination.proofs.SearchedBlock.{limits-graph, of-block, as-root, block-eliminates}
 use Rattle.core_advance.proofs.EndBlock.{sums-range, share-moderate, share-grows, share-nonneg}
@@ -103,6 +103,9 @@ module _ {p : Problem} {mark : List ℕ} {root other : ℕ} {sign : ℤ} {r : Si
   before-all x h n k s l =
       no-later-trans x (r .first) (breaks k) h first-above (breaks-above k s l) n (rw (f .first) (least-no-later (r .count) breaks breaks-above k s l))
 
+  pub searched-from : SearchedFrom p mark root via up
+  searched-from = record { count = r .count; at = at; queue = queue; off = off; tree = f .tree }
+
 -- ---- the two ends stand in one block
 
 module _ {p : Problem} {mark : List ℕ} {a b : ℕ} {one : Side} {at queue via up : List ℕ} {off held share : List ℤ} (h : ℤ) (lim : Limits p) (la : a < p .labels) (lb : b < p .labels) (f : SideFound p mark a b (pos 1) one at queue via up off held share) (j : one .joined ≡ true) where
@@ -165,11 +168,11 @@ module _ {p : Problem} {mark : List ℕ} {a b : ℕ} {one : Side} {at queue via 
           let none : breaks lim f k ≡ Nothing = least-none (one .count) (breaks lim f) (sym (f .first) ∙ is) k s l in
           let z : _≡_ {A = ℕ} 0 1 = cc (sym none ∙ point) in omega arith
 
-  pub within-gives : Gives p mark a b h (withinBlock (one .first)) at queue via up off
+  pub within-gives : Gives p mark a b h (withinBlock (one .first)) via up
   within-gives = go (one .first) refl
     where
-      go : (x : Break) → one .first ≡ x → Gives p mark a b h (withinBlock x) at queue via up off
-      go Nothing is = blocked is
+      go : (x : Break) → one .first ≡ x → Gives p mark a b h (withinBlock x) via up
+      go Nothing is = record { at = at; queue = queue; off = off; blocked = blocked is }
       go (At e R P) is = drop-within is
 
 -- ---- the two ends stand in different blocks
@@ -322,15 +325,15 @@ module _ {p : Problem} {mark : List ℕ} {a b : ℕ} {one two : Side} {at₁ que
         (λ (i : near ≡ two .first). dropped-right above n₁ n₂ before (sym i ∙ is))
         (nearer-one (one .first) (two .first))
 
-    against : (at queue via up : List ℕ) (off : List ℤ) (o : Order) → orderOf (over R P) (over M Z) ≡ o → Gives p mark a b h (beforeTight o e) at queue via up off
+    against : (via up : List ℕ) (o : Order) → orderOf (over R P) (over M Z) ≡ o → Gives p mark a b h (beforeTight o e) via up
     unfolding orderOf
-    against at queue via up off Below told = dropped-first (below-means (R *ℤ Z) (M *ℤ P) told)
-    against at queue via up off Same told = reached-first (le-of-eq (sym (same-means (R *ℤ Z) (M *ℤ P) told)))
-    against at queue via up off Above told = reached-first (le-of-lt (above-means (R *ℤ Z) (M *ℤ P) told))
+    against via up Below told = dropped-first (below-means (R *ℤ Z) (M *ℤ P) told)
+    against via up Same told = reached-first (le-of-eq (sym (same-means (R *ℤ Z) (M *ℤ P) told)))
+    against via up Above told = reached-first (le-of-lt (above-means (R *ℤ Z) (M *ℤ P) told))
 
-  pub decide-gives : (at queue via up : List ℕ) (off : List ℤ) → Gives p mark a b h (decided h one two) at queue via up off
-  decide-gives at queue via up off = go near refl
+  pub decide-gives : (via up : List ℕ) → Gives p mark a b h (decided h one two) via up
+  decide-gives via up = go near refl
     where
-      go : (x : Break) → near ≡ x → Gives p mark a b h (againstTight h (one .sums) (two .sums) x) at queue via up off
+      go : (x : Break) → near ≡ x → Gives p mark a b h (againstTight h (one .sums) (two .sums) x) via up
       go Nothing is = reached-none is
-      go (At e R P) is = against is at queue via up off (orderOf (over R P) (over (meetingOf h (one .sums) (two .sums)) Z)) (ap (λ (m : ℤ). orderOf (over R P) (over m Z)) (sym meets))
+      go (At e R P) is = against is via up (orderOf (over R P) (over (meetingOf h (one .sums) (two .sums)) Z)) (ap (λ (m : ℤ). orderOf (over R P) (over m Z)) (sym meets))

@@ -15,10 +15,12 @@ use Rattle.core_breaking.specs.Breaking.{candidateOf, leastBreak}
 use Rattle.core_forest.specs.Problem.{Problem, graphOf}
 use Rattle.ground.specs.Limits.{labelsMost}
 
--- the shares that are eliminated beside the surplus: all to the other end where it stands in the block, else the weights
+-- the shares that are eliminated beside the surplus: all to the other end where it stands in the block, else the
+-- weights
 abbrev pub shareOf : Problem → Side → ℕ → ℕ → ℤ
 shareOf p r other x = cond (r .joined) (onlyAt other (r .sums .weight) x) (int (p .weight) x)
 
+-- the block as a search leaves it, and what its two eliminations and its breaking points come to
 pub record SideFound (p : Problem) (mark : List ℕ) (root other : ℕ) (sign : ℤ) (r : Side) (at queue via up : List ℕ) (off held share : List ℤ) : Type 0 where
   pub tree : Tree (graphOf p mark) root (r .count) at queue via up off
   pub weight : r .sums .weight ≡ weightSum (r .count) queue (p .weight)
@@ -35,3 +37,12 @@ pub record SideFound (p : Problem) (mark : List ℕ) (root other : ℕ) (sign : 
   pub share-size : length share₁ ≡ labelsMost
   pub share-is : share ≡ eliminated (r .count) queue up share₁
   pub first : r .first ≡ leastBreak (r .count) (candidateOf sign queue via (p .left) (p .right) (p .kind) held share)
+
+-- the same over the two lists that outlast the call; the others are scratch
+pub record SideSays (p : Problem) (mark : List ℕ) (root other : ℕ) (sign : ℤ) (r : Side) (via up : List ℕ) : Type 0 where
+  pub at : List ℕ
+  pub queue : List ℕ
+  pub off : List ℤ
+  pub held : List ℤ
+  pub share : List ℤ
+  pub found : SideFound p mark root other sign r at queue via up off held share

@@ -14,11 +14,12 @@ ghost use Prim.Native.Nat.{_<_, _≤_};
 ghost use lib.IntN.{natAbs};
 ghost use Rattle.core_forest.specs.Chain.{Chained};
 ghost use Rattle.core_forest.specs.Problem.{Limits, problemLent, problemNow};
-ghost use Rattle.core_advance.specs.Advance.{Gives};
+ghost use Rattle.core_advance.specs.Advance.{Gives, LastSearched};
 ghost use Rattle.ground.specs.Limits.{distanceMost};
 ghost use Rattle.ground.specs.Views.{after, before};
 
 // Finds what gives way first, along chains of the marked gaps. Nothing is marked or dropped here.
+// A ring can be read out of via and up; else they are what the last search left.
 pub fn advance(
     labels: usize,
     gaps: usize,
@@ -36,13 +37,8 @@ pub fn advance(
     mark: &GapBytes,
     wanted: &LabelInts,
     weight: &LabelInts,
-    at: &mut LabelIndices,
-    queue: &mut LabelIndices,
     via: &mut LabelIndices,
     up: &mut LabelIndices,
-    off: &mut LabelInts,
-    held: &mut LabelInts,
-    share: &mut LabelInts,
 ) -> Outcome
     requires { let p = problemNow labels gaps left right distance kind wanted weight in
         ⌜ Limits p
@@ -53,7 +49,8 @@ pub fn advance(
         × Chained gaps (now right) (now mark) (now «in_head») (now «in_next») ⌝ }
     ensures { λ r.
         let p = problemLent labels gaps left right distance kind wanted weight in
-        ⌜ Gives p (before mark) (a .0) (b .0) h r (after at) (after queue) (after via) (after up) (after off) ⌝ }
+        ⌜ Gives p (before mark) (a .0) (b .0) h r (after via) (after up)
+        × LastSearched p (before mark) (a .0) (b .0) (after via) (after up) ⌝ }
 {
     let one = side(
         labels,
@@ -72,13 +69,8 @@ pub fn advance(
         mark,
         wanted,
         weight,
-        at,
-        queue,
         via,
         up,
-        off,
-        held,
-        share,
     );
     let joined = one.joined;
     if joined {
@@ -102,13 +94,8 @@ pub fn advance(
         mark,
         wanted,
         weight,
-        at,
-        queue,
         via,
         up,
-        off,
-        held,
-        share,
     );
     decide(h, one, two)
 }

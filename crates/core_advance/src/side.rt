@@ -12,6 +12,7 @@ use ground::lengths::measured_labels;
 use ground::limits::GapBytes;
 use ground::limits::GapIndices;
 use ground::limits::GapInts;
+use ground::limits::LABELS;
 use ground::limits::LabelBytes;
 use ground::limits::LabelIndices;
 use ground::limits::LabelInts;
@@ -21,13 +22,14 @@ ghost use Prim.Native.Nat.{_<_};
 ghost use lib.IntN.{pos, negsuc};
 ghost use Rattle.core_forest.specs.Chain.{Chained};
 ghost use Rattle.core_forest.specs.Problem.{Limits, problemLent, problemNow};
-ghost use Rattle.core_advance.specs.Side.{SideFound};
+ghost use Rattle.core_advance.specs.Side.{SideSays};
 ghost use Rattle.core_advance.specs.Shares.{Shared};
 ghost use Rattle.core_elimination.specs.Block.{Listed};
 ghost use Rattle.ground.specs.Limits.{labelsMost};
 ghost use Rattle.ground.specs.Views.{after, before};
 
-// Gives each label of the block its share of the push, and says whether the other end stands in the block: if so, the whole share is there.
+// Gives each label of the block its share of the push, and says whether the other end stands in the block: if so, the
+// whole share is there.
 fn shared(
     count: usize,
     other: Label,
@@ -50,7 +52,8 @@ fn shared(
     true
 }
 
-// Searches the block of the root, and eliminates what its labels lack of their balance, times the sign, and their shares of the push.
+// Searches the block of the root, and eliminates what its labels lack of their balance, times the sign, and their
+// shares of the push.
 pub(crate) fn side(
     labels: usize,
     gaps: usize,
@@ -68,13 +71,8 @@ pub(crate) fn side(
     mark: &GapBytes,
     wanted: &LabelInts,
     weight: &LabelInts,
-    at: &mut LabelIndices,
-    queue: &mut LabelIndices,
     via: &mut LabelIndices,
     up: &mut LabelIndices,
-    off: &mut LabelInts,
-    held: &mut LabelInts,
-    share: &mut LabelInts,
 ) -> Side
     requires { let p = problemNow labels gaps left right distance kind wanted weight in
         ⌜ Limits p
@@ -85,9 +83,13 @@ pub(crate) fn side(
         × Chained gaps (now right) (now mark) (now «in_head») (now «in_next») ⌝ }
     ensures { λ r.
         let p = problemLent labels gaps left right distance kind wanted weight in
-        ⌜ SideFound p (before mark) (root .0) (other .0) sign r (after at) (after queue) (after via) (after up) (after off)
-        (after held) (after share) ⌝ }
+        ⌜ SideSays p (before mark) (root .0) (other .0) sign r (after via) (after up) ⌝ }
 {
+    let mut at = [0usize; LABELS];
+    let mut queue = [0usize; LABELS];
+    let mut off = [0i64; LABELS];
+    let mut held = [0i64; LABELS];
+    let mut share = [0i64; LABELS];
     let count = search_along(
         labels,
         gaps,
@@ -100,20 +102,20 @@ pub(crate) fn side(
         right,
         distance,
         mark,
-        at,
-        queue,
+        &mut at,
+        &mut queue,
         via,
         up,
-        off,
+        &mut off,
     );
-    let s = sums(count, queue, off, wanted, weight);
-    surplus(count, queue, off, wanted, weight, s, sign, held);
-    let joined = shared(count, other, s.weight, at, queue, weight, share);
-    measured_labels(held);
-    eliminate(count, queue, up, held);
-    measured_labels(share);
-    eliminate(count, queue, up, share);
-    let first = least_break(count, sign, queue, via, left, right, kind, held, share);
+    let s = sums(count, &queue, &off, wanted, weight);
+    surplus(count, &queue, &off, wanted, weight, s, sign, &mut held);
+    let joined = shared(count, other, s.weight, &at, &queue, weight, &mut share);
+    measured_labels(&held);
+    eliminate(count, &queue, up, &mut held);
+    measured_labels(&share);
+    eliminate(count, &queue, up, &mut share);
+    let first = least_break(count, sign, &queue, via, left, right, kind, &held, &share);
     Side {
         count,
         sums: s,

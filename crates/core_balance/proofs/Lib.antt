@@ -2,3 +2,4 @@ pub mod Placing
 pub mod Passes
 pub mod Balance
 pub mod Remarking
+pub mod Hanging

@@ -1,5 +1,5 @@
--- The places of a block's labels: its sums give a fraction for each, and wherever the marked gaps are tight and balance all alone the label
--- stands there.
+-- The places of a block's labels: its sums give a fraction for each, and wherever the marked gaps are tight and
+-- balance all alone the label stands there.
 use mathlib.Core.Path.{_≡_, refl, sym, _∙_, ap}
 use mathlib.Core.Logic.{_⊎_, inl, inr}
 use mathlib.Core.List.{List, [], _∷_}
@@ -57,7 +57,9 @@ weighted-most (suc n) w d B hw hd =
     rw (sum-last n (λ k. w k *ℤ d k), sum-last n w, natAbs-plus (sum-nonneg n w (λ k l. hw k (omega arith))) (hw n (omega arith)))
     (omega (
       arith,
-      plus-most (sum n (λ k. w k *ℤ d k)) (w n *ℤ d n) (weighted-most n w d B (λ k l. hw k (omega arith)) (λ k l. hd k (omega arith))) (times-most (w n) (d n) {m = natAbs (w n)} {n = B} (omega arith) (hd n (omega arith))),
+      plus-most (sum n (λ k. w k *ℤ d k)) (w n *ℤ d n)
+          (weighted-most n w d B (λ k l. hw k (omega arith)) (λ k l. hd k (omega arith)))
+          (times-most (w n) (d n) {m = natAbs (w n)} {n = B} (omega arith) (hd n (omega arith))),
     ))
 
 -- P and an offset times W, in one sum
@@ -81,7 +83,8 @@ unpushed f b = ring (f ∷ b ∷ []) (search quotes depth 12) (search quotes dep
 
 module _ {p : Problem} {mark : List ℕ} {root count : ℕ} {at queue via up : List ℕ} {off : List ℤ} (lim : Limits p) (t : Tree (graphOf p mark) root count at queue via up off) where
   -- the block's balance sums to zero: no marked gap leads out of it, and nothing pushes
-  block-balance : (N : ℤ) (X Λ : ℕ → ℤ) → StateAt (numbersOf p) (marksOf mark) 0 0 N (pos 0) X Λ → sum (p .labels) (λ i. ind (isSeen at i) *ℤ (pos 2 *ℤ (int (p .weight) i *ℤ (X i -ℤ N *ℤ int (p .wanted) i)))) ≡ pos 0
+  block-balance : (N : ℤ) (X Λ : ℕ → ℤ) → StateAt (numbersOf p) (marksOf mark) 0 0 N (pos 0) X Λ
+      → sum (p .labels) (λ i. ind (isSeen at i) *ℤ (pos 2 *ℤ (int (p .weight) i *ℤ (X i -ℤ N *ℤ int (p .wanted) i)))) ≡ pos 0
   block-balance N X Λ st =
       sum-cong (p .labels) (λ i. ind (isSeen at i) *ℤ (pos 2 *ℤ (int (p .weight) i *ℤ (X i -ℤ N *ℤ int (p .wanted) i)))) (λ i. ind (isSeen at i) *ℤ flow (p .gaps) (nat (p .left)) (nat (p .right)) Λ i)
       (λ i l. ap (λ z. ind (isSeen at i) *ℤ z) (st .balance i l ∙ unpushed (flow (p .gaps) (nat (p .left)) (nat (p .right)) Λ i) (ind (eqb 0 i))))
@@ -100,14 +103,20 @@ module _ {p : Problem} {mark : List ℕ} {root count : ℕ} {at queue via up : L
     pub label-placed : (k : ℕ) → k < count → LabelPlaced p mark (nat queue k) (numerator s off (nat queue k)) (s .weight)
     label-placed k l = record {
       den-least = block-sums lim t s hw hp .weight-least;
-      den-most = λ B h. rw hw (omega (arith, mul-le-mul {n₁ = count} {m₁ = B} {n₂ = 48} {m₂ = B} (block-listed lim t .count-most) (omega arith), sum-bound count (λ j. int (p .weight) (nat queue j)) B (λ j lj. h (nat queue j) (t .placed j lj .0))));
+      den-most = λ B h. rw hw (omega (
+        arith,
+        mul-le-mul {n₁ = count} {m₁ = B} {n₂ = 48} {m₂ = B} (block-listed lim t .count-most) (omega arith),
+        sum-bound count (λ j. int (p .weight) (nat queue j)) B (λ j lj. h (nat queue j) (t .placed j lj .0)),
+      ));
       num-most = num-most k l;
       placed = λ N X Λ _ st. halved (s .weight) (X (nat queue k)) N (numerator s off (nat queue k))
           (rw (hp, hw) (mean-at (limits-graph mark lim) t X N (st .tight) (int (p .weight)) (int (p .wanted)) (pos 0) (block-balance N X Λ st) k l));
     }
 
     -- after the pass over the block a label of it stands there, and any other is as it was
-    pub block-placed : {num₀ den₀ num den : List ℤ} → Given count queue (numerator s off) num₀ num → Given count queue (λ x. s .weight) den₀ den → (j : ℕ) → j < p .labels → LabelPlaced p mark j (int num j) (int den j) ⊎ ((int num j ≡ int num₀ j) × (int den j ≡ int den₀ j))
+    pub block-placed : {num₀ den₀ num den : List ℤ} → Given count queue (numerator s off) num₀ num
+        → Given count queue (λ x. s .weight) den₀ den → (j : ℕ) → j < p .labels
+        → LabelPlaced p mark j (int num j) (int den j) ⊎ ((int num j ≡ int num₀ j) × (int den j ≡ int den₀ j))
     block-placed {num₀} {den₀} {num} {den} gn gd j l =
         by-mark (isSeen at j)
         (λ b. inl (of-block lim t (λ x. LabelPlaced p mark x (int num x) (int den x)) (λ k h. rw (gn .inside k h, gd .inside k h) (label-placed k h)) j l b))

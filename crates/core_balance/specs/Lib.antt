@@ -1,3 +1,4 @@
 pub mod Block
 pub mod Places
 pub mod Balance
+pub mod Hanging

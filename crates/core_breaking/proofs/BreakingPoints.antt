@@ -16,7 +16,7 @@ use borrow.Author.Tests.{eqb-true, eqb-false, eq-eqb, ne-eqb}
 use Rattle.exact.specs.declared.Order.{Order}
 use Rattle.exact.specs.declared.Order.the-variants.{Below, Same, Above}
 use Rattle.exact.specs.Divide.{InRange, orderOf}
-use Rattle.algebra.proofs.Whole.{le-parts, parts-lt, le-of-eq, le-of-lt, le-or-lt, not-le-of-lt}
+use Rattle.algebra.proofs.Whole.{le-parts, parts-le, parts-lt, le-of-eq, le-of-lt, le-or-lt, not-le-of-lt}
 use Rattle.exact.proofs.Fractions.{≼-trans, ≼-refl}
 use Rattle.algebra.proofs.Quotient.{kept, leZ-of-test, test-of-leZ, lt-of-test, le-of-test}
 use Rattle.exact.proofs.Ordering.{num-kept, den-kept, below-means, above-means, same-means}
@@ -51,14 +51,6 @@ NoLater (At e r p) (At f s q) = (r *ℤ q) ≤ℤ (s *ℤ p)
 abbrev pub Above0 : Break → Type 0
 Above0 Nothing = Unit {0}
 Above0 (At e r p) = pos 0 <ℤ p
-
-pub above0 : (a : Break) → BreakInRange a → Above0 a
-above0 Nothing h = tt
-above0 (At e r p) h = h .above
-
-pub no-later-refl : (a : Break) → NoLater a a
-no-later-refl Nothing = tt
-no-later-refl (At e r p) = ≼-refl (over r p)
 
 pub no-later-trans : (a b c : Break) → Above0 a → Above0 b → Above0 c → NoLater a b → NoLater b c → NoLater a c
 no-later-trans a b Nothing ha hb hc h k = tt
@@ -112,25 +104,12 @@ later-than-nothing (At e r p) h = absurd h
 pub cross : {a b : Break} {e f : GapNumber} {r p s q : ℤ} → NoLater a b → a ≡ At e r p → b ≡ At f s q → (r *ℤ q) ≤ℤ (s *ℤ p)
 cross h is-a is-b = rw is-b at (rw is-a at h)
 
--- the nearer of two is nothing where both are, and else one of them that is not above the other
+-- the nearer of two is nothing where both are, and only there
 pub nearer-none : (a b : Break) → (nearerOf a b ≡ Nothing) ↔ ((a ≡ Nothing) × (b ≡ Nothing))
 nearer-none a b = (
   λ (e : nearerOf a b ≡ Nothing). (later-than-nothing a (rw e at (nearer-first a b)), later-than-nothing b (rw e at (nearer-second a b))),
   λ (h : (a ≡ Nothing) × (b ≡ Nothing)). rw (h .0, h .1),
 )
-
-pub record Nearest (a b : Break) (e : GapNumber) (r p : ℤ) : Type 0 where
-  pub one : (a ≡ At e r p) ⊎ (b ≡ At e r p)
-  pub first : (f : GapNumber) (s q : ℤ) → a ≡ At f s q → (r *ℤ q) ≤ℤ (s *ℤ p)
-  pub second : (f : GapNumber) (s q : ℤ) → b ≡ At f s q → (r *ℤ q) ≤ℤ (s *ℤ p)
-
-pub nearer-at : {a b : Break} {e : GapNumber} {r p : ℤ} → nearerOf a b ≡ At e r p → Nearest a b e r p
-nearer-at {a} {b} is =
-    record {
-      one = ⊎-elim (λ (h : nearerOf a b ≡ a). inl (sym h ∙ is)) (λ (h : nearerOf a b ≡ b). inr (sym h ∙ is)) (nearer-one a b);
-      first = λ f s q is-a. cross (nearer-first a b) is is-a;
-      second = λ f s q is-b. cross (nearer-second a b) is is-b;
-    }
 
 -- ---- what the code of `nearer` asks: signed numbers are read back from their bits
 
@@ -241,7 +220,7 @@ module _ (sign : ℤ) (queue via left right kind : List ℕ) (held share : List 
   here-in-range known lt = ⊎-elim (λ (b : Breaks). rw (breaks-at b) (in-range b)) (λ (n : here ≡ Nothing). rw n tt) breaks-or-none
     where
       in-range : Breaks → InRange (over (int held label) (int share label))
-      in-range b = record { above = parts-lt (omega (arith, le-parts (b .some))); den-most = known .share-most k lt; num-most = known .held-most k lt }
+      in-range b = record { above = parts-lt (omega (arith, le-parts (b .some))); den-most = parts-le (omega (arith, le-parts (known .share-most k lt))); num-most = omega (arith, known .held-most k lt) }
 
   pub here-above0 : Above0 here
   here-above0 = ⊎-elim (λ (b : Breaks). rw (breaks-at b) (parts-lt (omega (arith, le-parts (b .some))))) (λ (n : here ≡ Nothing). rw n tt) breaks-or-none
@@ -335,9 +314,6 @@ least-none (suc zero) f e k some within = absurd (omega arith)
 least-none (suc (suc n)) f e k some within =
     let both = nearer-none (leastBreak (suc n) f) (f (suc n)) .0 e in
     ⊎-elim (λ (i : k ≡ suc n). rw i (both .1)) (λ (i : k < suc n). least-none (suc n) f (both .0) k some i) (last-or-earlier k (suc n) within)
-
-pub none-least : (count : ℕ) (f : ℕ → Break) → Each count (λ a. a ≡ Nothing) f → leastBreak count f ≡ Nothing
-none-least = least-all (λ a. a ≡ Nothing) refl (λ a b h k. nearer-none a b .1 (h, k))
 
 -- a first point stands at some position
 pub record Found (count : ℕ) (f : ℕ → Break) (a : Break) : Type 0 where

@@ -1,2 +1,3 @@
 pub mod BreakingPoints
 pub mod DecideLaws
+pub mod WrongBreaks

@@ -4,6 +4,7 @@ use exact::Fraction;
 use exact::Order;
 use exact::compare::compare;
 use ground::GapNumber;
+use ground::Label;
 use ground::limits::GapBytes;
 use ground::limits::GapIndices;
 use ground::limits::LabelIndices;
@@ -12,7 +13,8 @@ ghost use mathlib.Core.Path.{_≡_};
 ghost use mathlib.Core.Logic.{_⊎_};
 ghost use Prim.Native.Nat.{_+_, _<_};
 ghost use lib.IntN.{pos, negsuc};
-ghost use Rattle.core_breaking.specs.Breaking.{BreakInRange, Breakable, nearerOf, losingEnd, candidateOf, leastBreak};
+ghost use Rattle.core_breaking.specs.Breaking.{BreakInRange, Breakable, candidateOf, leastBreak, losingEnd};
+ghost use Rattle.core_breaking.specs.Breaking.{nearerOf};
 ghost use Rattle.ground.specs.Limits.{gapsMost};
 ghost use Rattle.ground.specs.Views.{before};
 
@@ -39,17 +41,19 @@ pub(crate) fn nearer(a: Break, b: Break) -> Break
 
 // The end of a gap at which the label under the gap stands, for a gap that loses load as the push grows:
 // with sign 1 those point away from the root, with sign -1 to it.
-fn losing_end(e: usize, sign: i64, left: &GapIndices, right: &GapIndices) -> usize
-    requires { ⌜ e < gapsMost ⌝ }
-    ensures { λ r. ⌜ r ≡ losingEnd sign (before left) (before right) e ⌝ }
+fn losing_end(e: GapNumber, sign: i64, left: &GapIndices, right: &GapIndices) -> Label
+    requires { ⌜ e .0 < gapsMost ⌝ }
+    ensures { λ r. ⌜ r .0 ≡ losingEnd sign (before left) (before right) (e .0) ⌝ }
 {
+    let k = e.0;
     if sign == 1 {
-        return right[e];
+        return Label(right[k]);
     }
-    left[e]
+    Label(left[k])
 }
 
-// The breaking point of the label at position k: of its parent gap, if that is of the kind at least and loses load as the push grows.
+// The breaking point of the label at position k: of its parent gap, if that is of the kind at least and loses load as
+// the push grows.
 fn candidate(
     k: usize,
     sign: i64,
@@ -74,8 +78,8 @@ fn candidate(
     if share[x] < 1 {
         return Break::Nothing;
     }
-    let end = losing_end(e, sign, left, right);
-    if end != x {
+    let end = losing_end(GapNumber(e), sign, left, right);
+    if end.0 != x {
         return Break::Nothing;
     }
     Break::At(GapNumber(e), held[x], share[x])

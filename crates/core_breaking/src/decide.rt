@@ -26,7 +26,11 @@ fn meeting(h: i64, one: Sums, two: Sums) -> i64
 
 // Between two blocks: the first breaking point gives way if it comes before the gap is tight.
 pub fn decide(h: i64, one: Side, two: Side) -> Outcome
-    requires { ⌜ (natAbs h ≤ distanceMost) × SumsInRange (one .sums) × SumsInRange (two .sums) × BreakInRange (one .first) × BreakInRange (two .first) ⌝ }
+    requires { ⌜ (natAbs h ≤ distanceMost)
+        × SumsInRange (one .sums)
+        × SumsInRange (two .sums)
+        × BreakInRange (one .first)
+        × BreakInRange (two .first) ⌝ }
     ensures { λ r. ⌜ r ≡ decided h one two ⌝ }
 {
     let s = one.sums;

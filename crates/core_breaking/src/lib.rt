@@ -5,7 +5,8 @@ use ground::GapNumber;
 pub mod breaking;
 pub mod decide;
 
-// The gap of a block whose multiplier comes to zero first, and the push at which it does: a numerator and a denominator.
+// The gap of a block whose multiplier comes to zero first, and the push at which it does: a numerator and a
+// denominator.
 pub enum Break {
     Nothing,
     At(GapNumber, i64, i64),

@@ -1,4 +1,5 @@
--- What the loops over a block share: a work array after k turns, each of which gives one label of the queue its entry.
+-- What the loops over a block share: a work array after k turns, each of which gives one label of the queue its
+-- entry.
 use mathlib.Core.Path.{_≡_, refl, sym, _∙_, ap, ap₂}
 use mathlib.Core.Bool.{Bool, cond}
 use mathlib.Core.List.{List}

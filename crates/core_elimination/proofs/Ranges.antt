@@ -1,31 +1,24 @@
 -- How large the numbers of a block get: its sums, the numerators of its places, and what elimination starts from.
 use mathlib.Core.Path.{_≡_, ap}
 use mathlib.Core.Logic.{_⊎_, ⊎-elim}
-use mathlib.Core.Bool.{Bool, true, false, cond}
 use mathlib.Core.List.{List}
 use Prim.Native.Nat.{ℕ, _+_, _*_, _^_, _≤_, _<_}
 use native.Mathlib.Omega.{arith}
 use native.Mathlib.Nat.{mul-le-mul}
-use lib.Dec.{eqb}
 use lib.IntN.{ℤ, pos, negsuc, negℤ, natAbs, _+ℤ_, _-ℤ_, _*ℤ_}
 use lib.Signed.{_≤ℤ_}
 use mir.Syntax.{w64}
 use mir.Val.{SFits, toZ, ofZ}
 use mir.ValLaws.{toZ-ofZ}
-use Rattle.algebra.proofs.Whole.{pp-neg, nn-neg, pp-*, nn-*, parts-natAbs, le-parts, parts-le, le-trans, no-nn}
-use Rattle.algebra.proofs.Sum.{natAbs-+, sum-bound, sum-term-le}
+use Rattle.algebra.proofs.Whole.{parts-natAbs, le-parts, parts-le, le-trans, no-nn}
+use Rattle.algebra.proofs.Quotient.{natAbs-neg, natAbs-*, natAbs-+}
+use Rattle.algebra.proofs.Sum.{sum-bound, sum-term-le}
 use Rattle.ground.specs.Entries.{nat, int}
 use Rattle.core_elimination.specs.declared.Sums.{Sums}
-use Rattle.core_elimination.specs.Block.{Listed, InRange, SumsInRange, weightSum, wantedSum, Given, numerator, surplusAt, onlyAt}
+use Rattle.core_elimination.specs.Block.{Listed, InRange, SumsInRange, weightSum, wantedSum, Given, numerator, surplusAt}
 use Rattle.core_elimination.specs.Eliminate.{Small}
 
 -- ---- magnitudes
-
-pub natAbs-neg : (a : ℤ) → natAbs (negℤ a) ≡ natAbs a
-natAbs-neg a = omega (arith, parts-natAbs a, parts-natAbs (negℤ a), pp-neg a, nn-neg a)
-
-pub natAbs-* : (a b : ℤ) → natAbs (a *ℤ b) ≡ natAbs a * natAbs b
-natAbs-* a b = rw (parts-natAbs (a *ℤ b), pp-* a b, nn-* a b, parts-natAbs a, parts-natAbs b) (omega arith)
 
 pub plus-most : (a b : ℤ) {m n : ℕ} → natAbs a ≤ m → natAbs b ≤ n → natAbs (a +ℤ b) ≤ m + n
 plus-most a b h k = omega (arith, natAbs-+ a b)
@@ -64,7 +57,9 @@ module _ {count : ℕ} {queue : List ℕ} {off wanted weight : List ℤ} (r : In
   moment-small k h = times-most (int weight (nat queue k)) (int wanted (nat queue k) -ℤ int off (nat queue k)) (weight-small k h) (gap-small k h)
 
   -- the machine's words for a label's numbers hold those numbers
-  pub label-read : (k : ℕ) → k < count → (toZ w64 (ofZ w64 (int weight (nat queue k))) ≡ int weight (nat queue k)) × (toZ w64 (ofZ w64 (int wanted (nat queue k))) ≡ int wanted (nat queue k)) × (toZ w64 (ofZ w64 (int off (nat queue k))) ≡ int off (nat queue k))
+  pub label-read : (k : ℕ) → k < count → (toZ w64 (ofZ w64 (int weight (nat queue k))) ≡ int weight (nat queue k))
+      × (toZ w64 (ofZ w64 (int wanted (nat queue k))) ≡ int wanted (nat queue k))
+      × (toZ w64 (ofZ w64 (int off (nat queue k))) ≡ int off (nat queue k))
   label-read k h = (
     read-back (int weight (nat queue k)) (weight-small k h) (omega arith),
     read-back (int wanted (nat queue k)) (r .wanted-most k h) (omega arith),
@@ -159,16 +154,7 @@ signed-small sign a {n} e h =
     let one : natAbs sign ≡ 1 = ⊎-elim (λ (p : sign ≡ pos 1). ap natAbs p) (λ (p : sign ≡ negsuc 0). ap natAbs p) e in
     rw (natAbs-* sign a, one) (omega arith)
 
-pub shares-small : {count : ℕ} {queue : List ℕ} {off wanted weight : List ℤ} → InRange count queue off wanted weight → (k : ℕ) → k < count → natAbs (int weight (nat queue k)) ≤ 4000000000000000
-shares-small r k h = omega (arith, weight-small r k h)
-
-pub only-small : (v : ℕ) (share : ℤ) (x : ℕ) → natAbs share ≤ 172800 → natAbs (onlyAt v share x) ≤ 4000000000000000
-only-small v share x h = go (eqb x v)
-  where
-    go : (b : Bool) → natAbs (cond b share (pos 0)) ≤ 4000000000000000
-    go true = omega arith
-    go false = omega arith
-
 -- a work array of small entries is one that elimination takes
-pub given-small : {count : ℕ} {queue : List ℕ} {f : ℕ → ℤ} {before after : List ℤ} → Given count queue f before after → ((k : ℕ) → k < count → natAbs (f (nat queue k)) ≤ 4000000000000000) → Small count queue after
+pub given-small : {count : ℕ} {queue : List ℕ} {f : ℕ → ℤ} {before after : List ℤ} → Given count queue f before after
+    → ((k : ℕ) → k < count → natAbs (f (nat queue k)) ≤ 4000000000000000) → Small count queue after
 given-small g h = λ k l. rw (g .inside k l) (h k l)

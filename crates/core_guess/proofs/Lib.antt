@@ -1,2 +1,3 @@
 pub mod Doubles
 pub mod Joining
+pub mod Wishing

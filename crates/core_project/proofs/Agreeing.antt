@@ -24,6 +24,7 @@ use Rattle.least_move.specs.Sheet.{Sheet, Gap, label, gapNumber}
 use Rattle.least_move.specs.Placement.{Placement, Holds, Tight}
 use Rattle.least_move.specs.Multipliers.{Multipliers, Conditions, Lawful, counted, asRight, asLeft}
 use Rattle.least_move.specs.Marks.{Step, start, finish, Leads, Each, Marks, MarkedRing}
+use Rattle.least_move.proofs.Forest.{each-map}
 use Rattle.least_move.specs.Ring.{Ring, Passable, distanceOf, lengthOf, OnceLeft}
 use Rattle.ground.specs.Entries.{nat, int}
 use Rattle.core_forest.specs.Problem.{Problem, Limits, kindOf, sheetFrom}
@@ -38,10 +39,6 @@ pub total-cong : (n : ℕ) (f g : ℕ → Fraction) → ((k : ℕ) → k < n →
 unfolding total
 total-cong zero f g h = refl
 total-cong (suc n) f g h = ap₂ _⊕_ (total-cong n f g (λ k l. h k (omega arith))) (h n (omega arith))
-
-each-map : {P Q : Step → Type 0} → ((t : Step) → P t → Q t) → (ts : List Step) → Each P ts → Each Q ts
-each-map f [] h = tt
-each-map f (t ∷ ts) h = (f t (h .0), each-map f ts (h .1))
 
 each-map₂ : {P Q R : Step → Type 0} → ((t : Step) → P t → Q t → R t) → (ts : List Step) → Each P ts → Each Q ts → Each R ts
 each-map₂ f [] h k = tt

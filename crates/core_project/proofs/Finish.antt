@@ -26,6 +26,8 @@ use Rattle.ground.specs.Entries.{nat, int}
 use Rattle.core_forest.specs.Problem.{Problem, Limits, marksOf, numbersOf, kindOf, withKind, sheetFrom}
 use Rattle.core_worst_gap.specs.WorstGap.{HoldsBy, reachOf, standsAt}
 use Rattle.core_standing.specs.Standing.{Standing, AllHold}
+use Rattle.core_settle.specs.declared.Found.{Found}
+use Rattle.core_settle.specs.declared.Found.the-variants.{Placed, Ring}
 use Rattle.core_settle.specs.Settle.{SettleSays}
 use Rattle.core_balance.specs.Balance.{Balanced}
 use Rattle.core_balance.proofs.Balance.{above-of, other-scale, limits-sound}
@@ -106,6 +108,6 @@ module _ (p : Problem) (mark : List ℕ) (num den load over : List ℤ) (lim : L
   }
 
 -- what settling says, at both outcomes
-pub core-says : (p : Problem) (r : ℕ) (mark : List ℕ) (num den load over : List ℤ) (ring back : List ℕ) → Limits p → SettleSays p r mark num den load over ring back → CoreSays p r mark num den load over ring back
-core-says p zero mark num den load over ring back lim said = finish p mark num den load over lim (said .0) (said .1)
-core-says p (suc k) mark num den load over ring back lim said = said
+pub core-says : (p : Problem) (r : Found) (mark : List ℕ) (num den load over : List ℤ) (ring back : List ℕ) → Limits p → SettleSays p r mark num den load over ring back → CoreSays p r mark num den load over ring back
+core-says p Placed mark num den load over ring back lim said = finish p mark num den load over lim (said .0) (said .1)
+core-says p (Ring size) mark num den load over ring back lim said = said

@@ -4,8 +4,8 @@ use native.Mathlib.Omega.{arith}
 use borrow.Author.Count.{below-more}
 use mathlib.Core.Path.{_≡_, refl, sym, ap, _∙_}
 use mathlib.Core.List.{List}
-use lib.ListN.{length, getD, set, drop, length-set}
-use lib.Seq.{drop-set-lt, drop-drop, getD-set-same, getD-set-other}
+use lib.ListN.{length, getD, set, take, drop, length-set, List·getD-append}
+use lib.Seq.{drop-set-lt, drop-drop, drop-at, getD-take, getD-set-same, getD-set-other, length-take-le}
 use native.Mathlib.Nat.{eq-one-of-dvd-one}
 use lib.IntN.{ℤ, pos, *ℤ-comm, *ℤ-zero}
 use lib.Signed.{_<ℤ_}
@@ -13,8 +13,9 @@ use Rattle.algebra.proofs.Whole.{parts-lt}
 use Rattle.exact.specs.declared.Fraction.{Fraction}
 use Rattle.exact.specs.Fraction.{Reduced}
 use Rattle.core_project.specs.Core.{fraction}
-use Rattle.ground.specs.Entries.{Filled}
-use Rattle.core_project.specs.Project.{FrontWritten, FractionsWritten}
+use Rattle.ground.specs.Entries.{Filled, over}
+use Rattle.ground.proofs.Copying.{over-length}
+use Rattle.core_project.specs.Project.{Copied, FrontWritten, FractionsWritten}
 
 module _ {A : Type 0} where
   filled-start : (before : List A) → Filled 0 before before
@@ -29,21 +30,22 @@ module _ {A : Type 0} where
   stays : (l : List A) (k j : ℕ) (v none : A) → j < k → getD (set l k v) j none ≡ getD l j none
   stays l k j v none h = getD-set-other l k j v none (λ (e : j ≡ k). omega arith)
 
-  -- The pass that copies: after k turns the first k entries are the source's.
-  pub copied-start : (from before : List A) (none : A) → FrontWritten 0 from before before none
-  copied-start from before none = record { filled = filled-start before; written = λ j h. absurd (omega arith) }
+  -- A copy: the first entries are the source's, and what lies behind stays.
+  pub copied-in : (n : ℕ) (from to : List A) (none : A) → n ≤ length from → Copied n from (over n from to) none
+  copied-in n from to none h k l =
+      List·getD-append (take n from) (drop n to) none k (omega (arith, length-take-le n from h)) ∙ getD-take n from k none l
 
-  pub copied-turn : {k : ℕ} {from before after : List A} {none : A} → FrontWritten k from before after none → k < length after → FrontWritten (k + 1) from before (set after k (getD from k none)) none
-  copied-turn {k} {from} {before} {after} {none} w room =
-      record {
-        filled = filled-turn k before after (getD from k none) (w .filled);
-        written =
-            below-more (λ j. getD (set after k (getD from k none)) j none ≡ getD from j none) k (λ j h. stays after k j (getD from k none) none h ∙ w .written j h)
-            (getD-set-same after k (getD from k none) none room);
-      }
+  -- the same of a list that is known by an equation, and of a count that is the list's length
+  pub copied-by : (n : ℕ) (from to : List A) {m : ℕ} {after : List A} (none : A) → after ≡ over n from to → n ≤ length from → m ≡ n → Copied m from after none
+  copied-by n from to none is h same = rw (is, same) (copied-in n from to none h)
 
-  pub copied-end : {n k : ℕ} {from before after : List A} {none : A} → FrontWritten k from before after none → k ≤ n → n ≤ k → FrontWritten n from before after none
-  copied-end {n} {k} w h g = let e : n ≡ k = omega arith in rw e w
+  pub copied-out : (n : ℕ) (from to : List A) {after : List A} (none : A) → after ≡ over n from to → n ≤ length from → n ≤ length to → FrontWritten n from to after none
+  copied-out n from to none is h g =
+      rw is
+      (record {
+        filled = record { size = over-length from to n h g; beyond = drop-at (take n from) (drop n to) n (length-take-le n from h) };
+        written = copied-in n from to none h;
+      })
 
 -- The pass that reduces: after k turns the first k fractions are the source's in lowest terms.
 pub reduced-start : (num den upper lower : List ℤ) → FractionsWritten 0 num den upper lower upper lower

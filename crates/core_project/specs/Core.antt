@@ -11,6 +11,8 @@ use Rattle.least_move.specs.Multipliers.{Multipliers, Conditions}
 use Rattle.least_move.specs.Marks.{Marks}
 use Rattle.ground.specs.Entries.{nat, int}
 use Rattle.core_forest.specs.Problem.{Problem, marksOf, sheetFrom}
+use Rattle.core_settle.specs.declared.Found.{Found}
+use Rattle.core_settle.specs.declared.Found.the-variants.{Placed, Ring}
 use Rattle.core_settle.specs.Settle.{RingStands}
 use Rattle.ground.specs.Limits.{labelsMost, offsetMost}
 
@@ -31,6 +33,7 @@ pub record CorePlaced (p : Problem) (mark : List ℕ) (num den load over : List 
   pub conditions : (place : Placement) (multiplier : Multipliers) → Written p num den load over place multiplier → Conditions (sheetFrom p) place multiplier
   pub marks : (place : Placement) (multiplier : Multipliers) → Written p num den load over place multiplier → Marks (sheetFrom p) place multiplier (λ e. marksOf mark (e .0))
 
-abbrev pub CoreSays : Problem → ℕ → (mark : List ℕ) (num den load over : List ℤ) (ring back : List ℕ) → Type 0
-CoreSays p zero mark num den load over ring back = CorePlaced p mark num den load over
-CoreSays p (suc k) mark num den load over ring back = RingStands p (suc k) ring back
+-- what the core says: every label is placed, or a ring stands in the two ring arrays
+abbrev pub CoreSays : Problem → Found → (mark : List ℕ) (num den load over : List ℤ) (ring back : List ℕ) → Type 0
+CoreSays p Placed mark num den load over ring back = CorePlaced p mark num den load over
+CoreSays p (Ring size) mark num den load over ring back = RingStands p size ring back

@@ -1,5 +1,4 @@
 // The least move on plain slices: places, multipliers and marks that satisfy the conditions, or a ring.
-pub mod copy;
 pub mod project;
 pub mod solve;
 pub mod write;

@@ -1,15 +1,13 @@
 // The core on plain slices.
 use crate::Projected;
-use crate::copy::bytes_in;
-use crate::copy::distances_in;
-use crate::copy::ends_in;
-use crate::copy::labels_in;
 use crate::solve::solve;
-use crate::write::backs_out;
-use crate::write::marks_out;
 use crate::write::multipliers_out;
 use crate::write::places_out;
-use crate::write::ring_out;
+use core_settle::Found;
+use ground::copies::copy_bytes;
+use ground::copies::copy_indices;
+use ground::copies::copy_ints;
+use ground::lengths::measured_gap_bytes;
 use ground::lengths::measured_label_bytes;
 use ground::lengths::measured_label_indices;
 use ground::limits::GAPS;
@@ -50,21 +48,21 @@ pub fn project(
     let mut distances = [0i64; GAPS];
     let mut kinds = [0u8; GAPS];
     let mut proposed = [0u8; GAPS];
-    labels_in(wanted, &mut wants);
-    labels_in(weight, &mut weights);
-    ends_in(left, &mut lefts);
-    ends_in(right, &mut rights);
-    distances_in(distance, &mut distances);
-    bytes_in(kind, &mut kinds);
-    bytes_in(carried, &mut proposed);
+    copy_ints(labels, wanted, &mut wants);
+    copy_ints(labels, weight, &mut weights);
+    copy_indices(gaps, left, &mut lefts);
+    copy_indices(gaps, right, &mut rights);
+    copy_ints(gaps, distance, &mut distances);
+    copy_bytes(gaps, kind, &mut kinds);
+    copy_bytes(gaps, carried, &mut proposed);
     let mut mark = [0u8; GAPS];
     let mut num = [0i64; LABELS];
     let mut den = [0i64; LABELS];
     let mut load = [0i64; GAPS];
     let mut over = [0i64; GAPS];
-    let mut found = [0usize; LABELS];
+    let mut steps = [0usize; LABELS];
     let mut backs = [0u8; LABELS];
-    let size = solve(
+    let found = solve(
         labels,
         gaps,
         &lefts,
@@ -79,18 +77,19 @@ pub fn project(
         &mut den,
         &mut load,
         &mut over,
-        &mut found,
+        &mut steps,
         &mut backs,
     );
-    if size != 0 {
-        measured_label_indices(&found);
-        measured_label_bytes(&backs);
-        ring_out(size, &found, ring);
-        backs_out(size, &backs, back);
-        return Projected::Ring(size);
-    }
-    places_out(labels, &num, &den, place_num, place_den);
-    multipliers_out(gaps, &load, &over, mult_num, mult_den);
-    marks_out(gaps, &mark, carried);
-    Projected::Placed
+    let Found::Ring(size) = found else {
+        places_out(labels, &num, &den, place_num, place_den);
+        multipliers_out(gaps, &load, &over, mult_num, mult_den);
+        measured_gap_bytes(&mark);
+        copy_bytes(gaps, &mark, carried);
+        return Projected::Placed;
+    };
+    measured_label_indices(&steps);
+    measured_label_bytes(&backs);
+    copy_indices(size, &steps, ring);
+    copy_bytes(size, &backs, back);
+    Projected::Ring(size)
 }

@@ -1,10 +1,10 @@
 // The core on work arrays.
 use core_proposal::propose;
+use core_settle::Found;
 use core_settle::settle::settle;
 use ground::limits::GapBytes;
 use ground::limits::GapIndices;
 use ground::limits::GapInts;
-use ground::limits::LABELS;
 use ground::limits::LabelBytes;
 use ground::limits::LabelIndices;
 use ground::limits::LabelInts;
@@ -12,7 +12,7 @@ ghost use Rattle.core_forest.specs.Problem.{Limits, problemLent, problemNow};
 ghost use Rattle.core_project.specs.Core.{CoreSays};
 ghost use Rattle.ground.specs.Views.{after};
 
-// Lays the labels out. Gives 0 where every gap holds: label i stands at num[i] over den[i], gap e has the multiplier load[e] over over[e] and
+// Lays the labels out. Placed, where every gap holds: label i stands at num[i] over den[i], gap e has the multiplier load[e] over over[e] and
 // is marked where mark[e] is 1. Otherwise a ring of so many gaps stands in the front of ring, with 1 in back for a gap passed backwards.
 pub(crate) fn solve(
     labels: usize,
@@ -31,21 +31,13 @@ pub(crate) fn solve(
     over: &mut GapInts,
     ring: &mut LabelIndices,
     back: &mut LabelBytes,
-) -> usize
+) -> Found
     requires { let p = problemNow labels gaps left right distance kind wanted weight in
         ⌜ Limits p ⌝ }
     ensures { λ r.
         let p = problemLent labels gaps left right distance kind wanted weight in
         ⌜ CoreSays p r (after mark) (after num) (after den) (after load) (after over) (after ring) (after back) ⌝ }
 {
-    let mut block = [0u8; LABELS];
-    let mut at = [0usize; LABELS];
-    let mut queue = [0usize; LABELS];
-    let mut via = [0usize; LABELS];
-    let mut up = [0usize; LABELS];
-    let mut off = [0i64; LABELS];
-    let mut held = [0i64; LABELS];
-    let mut share = [0i64; LABELS];
     if propose(
         labels,
         gaps,
@@ -57,19 +49,12 @@ pub(crate) fn solve(
         wanted,
         weight,
         mark,
-        &mut block,
-        &mut at,
-        &mut queue,
-        &mut via,
-        &mut up,
-        &mut off,
-        &mut held,
         num,
         den,
         load,
         over,
     ) {
-        return 0;
+        return Found::Placed;
     }
     settle(
         labels,
@@ -85,13 +70,6 @@ pub(crate) fn solve(
         den,
         ring,
         back,
-        &mut at,
-        &mut queue,
-        &mut via,
-        &mut up,
-        &mut off,
-        &mut held,
-        &mut share,
         load,
         over,
     )

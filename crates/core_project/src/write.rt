@@ -4,10 +4,7 @@ use exact::divide::divisor;
 use exact::divide::lowest;
 use exact::divide::lowest_by;
 use exact::known::no_divisor;
-use ground::limits::GapBytes;
 use ground::limits::GapInts;
-use ground::limits::LabelBytes;
-use ground::limits::LabelIndices;
 use ground::limits::LabelInts;
 ghost use Prim.Native.Nat.{ℕ, _<_, _≤_};
 ghost use lib.ListN.{length};
@@ -15,7 +12,7 @@ ghost use lib.IntN.{pos};
 ghost use lib.Signed.{_≤ℤ_, _<ℤ_};
 ghost use Rattle.exact.specs.Fraction.{Reduced};
 ghost use Rattle.ground.specs.Entries.{int};
-ghost use Rattle.core_project.specs.Project.{FractionsWritten, FrontWritten};
+ghost use Rattle.core_project.specs.Project.{FractionsWritten};
 ghost use Rattle.ground.specs.Limits.{gapsMost, labelsMost};
 ghost use Rattle.ground.specs.Views.{after, before};
 
@@ -82,42 +79,6 @@ pub(crate) fn multipliers_out(
         let bottom = q.den;
         upper[k] = top;
         lower[k] = bottom;
-        k += 1;
-    }
-}
-
-// Writes the marks.
-pub(crate) fn marks_out(count: usize, from: &GapBytes, to: &mut [u8])
-    requires { ⌜ (count ≤ gapsMost) × (count ≤ length (now to)) ⌝ }
-    ensures { λ _. ⌜ FrontWritten count (before from) (before to) (after to) 0 ⌝ }
-{
-    let mut k: usize = 0;
-    while k < count {
-        to[k] = from[k];
-        k += 1;
-    }
-}
-
-// Writes a ring's gap numbers.
-pub(crate) fn ring_out(count: usize, from: &LabelIndices, to: &mut [usize])
-    requires { ⌜ (count ≤ labelsMost) × (count ≤ length (now to)) ⌝ }
-    ensures { λ _. ⌜ FrontWritten count (before from) (before to) (after to) 0 ⌝ }
-{
-    let mut k: usize = 0;
-    while k < count {
-        to[k] = from[k];
-        k += 1;
-    }
-}
-
-// Writes which of a ring's gaps are passed backwards.
-pub(crate) fn backs_out(count: usize, from: &LabelBytes, to: &mut [u8])
-    requires { ⌜ (count ≤ labelsMost) × (count ≤ length (now to)) ⌝ }
-    ensures { λ _. ⌜ FrontWritten count (before from) (before to) (after to) 0 ⌝ }
-{
-    let mut k: usize = 0;
-    while k < count {
-        to[k] = from[k];
         k += 1;
     }
 }

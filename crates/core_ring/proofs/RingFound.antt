@@ -17,6 +17,7 @@ use Rattle.least_move.specs.Marks.{Step, start, finish, Leads, Each}
 use Rattle.least_move.specs.Ring.{Ring, Passable, distanceOf, lengthOf, OnceLeft}
 use Rattle.least_move.specs.Bench.{RingOf, forwards}
 use Rattle.least_move.specs.States.{viol, Numbers, Pushed, Pushes}
+use Rattle.least_move.proofs.Forest.{each-map}
 use Rattle.core_forest.specs.Tree.{Linked}
 use Rattle.ground.specs.Entries.{nat, int}
 use Rattle.core_forest.specs.Problem.{Problem, Limits, kindOf, graphOf, marksOf, numbersOf, sheetFrom}
@@ -42,10 +43,6 @@ passable : (k : Kind) (t : Bool) → k ≢ ignored → (k ≡ at-least → t ≡
 passable at-least t h f = f refl
 passable exactly t h f = tt
 passable ignored t h f = absurd (h refl)
-
-each-map : {P Q : Step → Type 0} → ((t : Step) → P t → Q t) → (ts : List Step) → Each P ts → Each Q ts
-each-map f [] h = tt
-each-map f (t ∷ ts) h = (f t (h .0), each-map f ts (h .1))
 
 map-const : (l : List ℕ) → map {B = ℕ} (λ _. 0) l ≡ replicate (length l) 0
 map-const [] = refl

@@ -16,7 +16,7 @@ use Rattle.least_move.proofs.Forest.{by-mark, independent-drop, independent-joi
 use Rattle.least_move.specs.States.{viol, Numbers, Pushed, Without, With, Pushes}
 use Rattle.ground.specs.Entries.{nat}
 use Rattle.core_forest.specs.Problem.{Problem, Limits, marksOf, numbersOf, IsForest}
-use Rattle.core_advance.specs.Advance.{PushedBy, GapDropped, GapReached, Blocked}
+use Rattle.core_advance.specs.Advance.{PushedBy, GapDropped, GapReached, BlockedBy}
 use Rattle.core_settle.specs.Raise.{Raised}
 
 -- ---- the marks as a list
@@ -140,9 +140,9 @@ ends-apart z S c a b h pushes sa sb e =
     pushes
 
 -- (the code hands the distance on as bits, so that it is told here by an equation)
-pub raised-reached : {p : Problem} {a b : ℕ} {h h' : ℤ} {mark₀ mark : List ℕ} {at queue via up : List ℕ} {off : List ℤ} (c : ℕ) → h ≡ h' → Limits p → c < p .gaps → Raising p a b h mark₀ mark → GapReached p mark a b h → Raised p mark₀ c a b h' true (set mark c 1) at queue via up off
-raised-reached {p} {a} {b} {h} {h'} {mark₀} {mark} {at} {queue} {via} {up} {off} c e lim l r d =
-    subst (λ (x : ℤ). Raised p mark₀ c a b x true (set mark c 1) at queue via up off) e
+pub raised-reached : {p : Problem} {a b : ℕ} {h h' : ℤ} {mark₀ mark via up : List ℕ} (c : ℕ) → h ≡ h' → Limits p → c < p .gaps → Raising p a b h mark₀ mark → GapReached p mark a b h → Raised p mark₀ c a b h' true (set mark c 1) via up
+raised-reached {p} {a} {b} {h} {h'} {mark₀} {mark} {via} {up} c e lim l r d =
+    subst (λ (x : ℤ). Raised p mark₀ c a b x true (set mark c 1) via up) e
     (record {
       forest = λ f pushes num den s. independent-join (marksOf (set mark c 1)) (d .block) c (lim .left-in) (lim .right-in) l (ends-apart (numbersOf p) (d .block) c a b h pushes (d .from) (d .to)) (d .inside) (added .others) (r .forest f num den s);
       raised = λ f pushes num den s. d .settled num den (r .forest f num den s) (r .pushed f num den s) c l pushes (not-marked (numbersOf p) (marksOf mark) c a b h num den l pushes (r .pushed f num den s)) (marksOf (set mark c 1)) added;
@@ -155,9 +155,9 @@ raised-reached {p} {a} {b} {h} {h'} {mark₀} {mark} {at} {queue} {via} {up} {of
     added : With (p .gaps) (marksOf mark) c (marksOf (set mark c 1))
     added = added-marks mark (p .gaps) c within
 
-pub raised-ring : {p : Problem} {a b : ℕ} {h h' : ℤ} {mark₀ mark : List ℕ} {at queue via up : List ℕ} {off : List ℤ} (c : ℕ) → h ≡ h' → Raising p a b h mark₀ mark → Blocked p mark a b at queue via up off → Raised p mark₀ c a b h' false mark at queue via up off
-raised-ring {p} {a} {b} {h} {h'} {mark₀} {mark} {at} {queue} {via} {up} {off} c e r d =
-    subst (λ (x : ℤ). Raised p mark₀ c a b x false mark at queue via up off) e
+pub raised-ring : {p : Problem} {a b : ℕ} {h h' : ℤ} {mark₀ mark via up : List ℕ} (c : ℕ) → h ≡ h' → Raising p a b h mark₀ mark → BlockedBy p mark a b via up → Raised p mark₀ c a b h' false mark via up
+raised-ring {p} {a} {b} {h} {h'} {mark₀} {mark} {via} {up} c e r d =
+    subst (λ (x : ℤ). Raised p mark₀ c a b x false mark via up) e
     (record {
       forest = λ f _ num den s. r .forest f num den s;
       raised = λ f _ num den s. (r .pushed f num den s, d);

@@ -2,7 +2,7 @@
 use mathlib.Core.Path.{_≡_, refl, subst}
 use mathlib.Core.Bool.{Bool, true, false}
 use mathlib.Core.List.{List, [], _∷_}
-use Prim.Native.Nat.{ℕ, zero, suc, _≤_, _<_}
+use Prim.Native.Nat.{ℕ, _≤_, _<_}
 use native.Mathlib.Omega.{arith}
 use lib.IntN.{ℤ, pos, negℤ, natAbs, _-ℤ_}
 use mir.Syntax.{w64}
@@ -30,7 +30,7 @@ use Rattle.core_ring.specs.Way.{Climbable, WayWritten}
 use Rattle.core_ring.proofs.RingFound.{PushesAs, pushes-of, climbable, ring-written}
 use Rattle.core_settle.specs.declared.Push.{Push}
 use Rattle.core_settle.specs.Raise.{Raised, RaisedTo}
-use Rattle.core_settle.specs.Settle.{pushOf, RingStands, SettleSays}
+use Rattle.core_settle.specs.Settle.{pushOf, RingStands}
 use Rattle.core_standing.specs.Standing.{Standing}
 use Rattle.core_standing.proofs.Standing.{small, den-above, dens-in, places-in, settled}
 
@@ -98,18 +98,18 @@ pushing lim st e backwards k is = rw is (lacks-pushes lim st e backwards (k .0) 
 
 module _ {p : Problem} {mark₀ : List ℕ} {num₀ den₀ load₀ over₀ : List ℤ} (lim : Limits p) (st : Standing p mark₀ num₀ den₀ load₀ over₀) where
   -- what the raise of the gap comes to
-  raised-to : {e : ℕ} {backwards : Bool} {a b : ℕ} {h : ℤ} {r : Bool} {mark at queue via up : List ℕ} {off : List ℤ} (t : Bool) → Pushing p mark₀ num₀ den₀ e backwards a b h → r ≡ t → Raised p mark₀ e a b (toZ w64 (ofZ w64 h)) r mark at queue via up off → IsForest p mark × RaisedTo t p a b h (int num₀) (int den₀) mark at queue via up off
+  raised-to : {e : ℕ} {backwards : Bool} {a b : ℕ} {h : ℤ} {r : Bool} {mark via up : List ℕ} (t : Bool) → Pushing p mark₀ num₀ den₀ e backwards a b h → r ≡ t → Raised p mark₀ e a b (toZ w64 (ofZ w64 h)) r mark via up → IsForest p mark × RaisedTo t p a b h (int num₀) (int den₀) mark via up
   raised-to {e} {backwards} {a} {b} {h} t q is r =
       let by : Pushes (numbersOf p) e a b h = pushes-of backwards (numbersOf p) e a b h (q .pushes) in
       let o = rw (is, read-back h (q .reach-most)) at r in
       (o .forest (st .forest) by (int num₀) (int den₀) (q .pushed), o .raised (st .forest) by (int num₀) (int den₀) (q .pushed))
 
   -- the gap is marked: its block waits for its places
-  pub turn-waits : {e : ℕ} {backwards : Bool} {a b : ℕ} {h : ℤ} {r : Bool} {mark at queue via up : List ℕ} {off den load over : List ℤ} → Pushing p mark₀ num₀ den₀ e backwards a b h → r ≡ true → Raised p mark₀ e a b (toZ w64 (ofZ w64 h)) r mark at queue via up off → Remarked (p .left) (p .right) mark₀ den₀ load₀ over₀ mark den load over → IsForest p mark × PartBalanced (withKind p []) mark num₀ den load over
+  pub turn-waits : {e : ℕ} {backwards : Bool} {a b : ℕ} {h : ℤ} {r : Bool} {mark via up : List ℕ} {den load over : List ℤ} → Pushing p mark₀ num₀ den₀ e backwards a b h → r ≡ true → Raised p mark₀ e a b (toZ w64 (ofZ w64 h)) r mark via up → Remarked (p .left) (p .right) mark₀ den₀ load₀ over₀ mark den load over → IsForest p mark × PartBalanced (withKind p []) mark num₀ den load over
   turn-waits q is r m = (raised-to true q is r .0, part-remarked m (st .balanced .part))
 
   -- and finds them
-  pub turn-again : {e : ℕ} {backwards : Bool} {a b : ℕ} {h : ℤ} {r : Bool} {mark at queue via up : List ℕ} {off : List ℤ} (num den load over : List ℤ) → Pushing p mark₀ num₀ den₀ e backwards a b h → r ≡ true → Raised p mark₀ e a b (toZ w64 (ofZ w64 h)) r mark at queue via up off → Balanced (withKind p []) mark num den load over → Standing p mark num den load over × (measure (numbersOf p) (int num) (int den) < measure (numbersOf p) (int num₀) (int den₀))
+  pub turn-again : {e : ℕ} {backwards : Bool} {a b : ℕ} {h : ℤ} {r : Bool} {mark via up : List ℕ} (num den load over : List ℤ) → Pushing p mark₀ num₀ den₀ e backwards a b h → r ≡ true → Raised p mark₀ e a b (toZ w64 (ofZ w64 h)) r mark via up → Balanced (withKind p []) mark num den load over → Standing p mark num den load over × (measure (numbersOf p) (int num) (int den) < measure (numbersOf p) (int num₀) (int den₀))
   turn-again {mark = mark} num den load over q is r b =
       let found : PlacesFound p mark num den = places-kind p [] mark num den (b .found) in
       let to : Reached (numbersOf p) (marksOf mark) (int num₀) (int den₀) = raised-to true q is r .1 in
@@ -119,15 +119,10 @@ module _ {p : Problem} {mark₀ : List ℕ} {num₀ den₀ load₀ over₀ : Lis
       )
 
   -- nothing gives way
-  pub turn-climbs : {e : ℕ} {backwards : Bool} {a b : ℕ} {h : ℤ} {r : Bool} {mark at queue via up : List ℕ} {off : List ℤ} → Pushing p mark₀ num₀ den₀ e backwards a b h → r ≡ false → Raised p mark₀ e a b (toZ w64 (ofZ w64 h)) r mark at queue via up off → Climbable via up a b
-  turn-climbs q is r = climbable (raised-to false q is r .1 .1) lim (q .to-in)
+  pub turn-climbs : {e : ℕ} {backwards : Bool} {a b : ℕ} {h : ℤ} {r : Bool} {mark via up : List ℕ} → Pushing p mark₀ num₀ den₀ e backwards a b h → r ≡ false → Raised p mark₀ e a b (toZ w64 (ofZ w64 h)) r mark via up → Climbable via up a b
+  turn-climbs q is r = climbable (raised-to false q is r .1 .1 .blocked) lim (q .to-in)
 
-  pub turn-ring : {e : ℕ} {backwards : Bool} {a b : ℕ} {h : ℤ} {r : Bool} {mark at queue via up : List ℕ} {off : List ℤ} {size : ℕ} {ring back : List ℕ} → Pushing p mark₀ num₀ den₀ e backwards a b h → r ≡ false → Raised p mark₀ e a b (toZ w64 (ofZ w64 h)) r mark at queue via up off → WayWritten e backwards a b (p .left) via up size ring back → RingStands p size ring back
+  pub turn-ring : {e : ℕ} {backwards : Bool} {a b : ℕ} {h : ℤ} {r : Bool} {mark via up : List ℕ} {size : ℕ} {ring back : List ℕ} → Pushing p mark₀ num₀ den₀ e backwards a b h → r ≡ false → Raised p mark₀ e a b (toZ w64 (ofZ w64 h)) r mark via up → WayWritten e backwards a b (p .left) via up size ring back → RingStands p size ring back
   turn-ring {e} {backwards} q is r w =
       let to = raised-to false q is r .1 in
-      (omega (arith, w .count), w .most, ring-written (to .1) (to .0) lim (q .to-in) backwards e (q .gap-in) (q .pushes) w)
-
--- a ring has a gap, so that its size says that it is one
-pub settle-ring : (p : Problem) (size : ℕ) (mark : List ℕ) (num den load over : List ℤ) (ring back : List ℕ) → RingStands p size ring back → SettleSays p size mark num den load over ring back
-settle-ring p zero mark num den load over ring back r = absurd (omega (arith, r .0))
-settle-ring p (suc k) mark num den load over ring back r = r
+      (omega (arith, w .count), w .most, ring-written (to .1 .blocked) (to .0) lim (q .to-in) backwards e (q .gap-in) (q .pushes) w)

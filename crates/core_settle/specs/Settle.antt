@@ -9,6 +9,9 @@ use Rattle.least_move.specs.States.{measure}
 use Rattle.ground.specs.Entries.{nat, int}
 use Rattle.core_forest.specs.Problem.{Problem, numbersOf, sheetFrom}
 use Rattle.core_ring.specs.Way.{stepsOf, IsRing}
+use Rattle.core_settle.specs.declared.Found.{Found}
+use Rattle.core_settle.specs.declared.Found.the-variants.{Placed}
+use Rattle.core_settle.specs.declared.Found.the-variants as rings
 use Rattle.core_settle.specs.declared.Push.{Push}
 use Rattle.core_settle.specs.declared.TurnEnd.{TurnEnd}
 use Rattle.core_settle.specs.declared.TurnEnd.the-variants.{Done, Again, Ring}
@@ -24,11 +27,13 @@ pushOf left right distance e false = record { from = label (nat left e); to = la
 abbrev pub RingStands : Problem → ℕ → (ring back : List ℕ) → Type 0
 RingStands p size ring back = (0 < size) × (size ≤ labelsMost) × IsRing (sheetFrom p) (stepsOf (take size ring) (take size back))
 
+-- what one turn says: every gap holds; or another is due, at a smaller measure; or there is a ring
 abbrev pub TurnSays : (p : Problem) (mark₀ : List ℕ) (num₀ den₀ : List ℤ) → TurnEnd → (mark : List ℕ) (num den load over : List ℤ) (ring back : List ℕ) → Type 0
 TurnSays p mark₀ num₀ den₀ Done mark num den load over ring back = Standing p mark num den load over × AllHold p num den
 TurnSays p mark₀ num₀ den₀ Again mark num den load over ring back = Standing p mark num den load over × (measure (numbersOf p) (int num) (int den) < measure (numbersOf p) (int num₀) (int den₀))
 TurnSays p mark₀ num₀ den₀ (Ring size) mark num den load over ring back = RingStands p size ring back
 
-abbrev pub SettleSays : (p : Problem) → ℕ → (mark : List ℕ) (num den load over : List ℤ) (ring back : List ℕ) → Type 0
-SettleSays p zero mark num den load over ring back = Standing p mark num den load over × AllHold p num den
-SettleSays p (suc k) mark num den load over ring back = RingStands p (suc k) ring back
+-- what the outer loop says: a forest in balance at which every gap holds, or a ring
+abbrev pub SettleSays : (p : Problem) → Found → (mark : List ℕ) (num den load over : List ℤ) (ring back : List ℕ) → Type 0
+SettleSays p Placed mark num den load over ring back = Standing p mark num den load over × AllHold p num den
+SettleSays p (rings.Ring size) mark num den load over ring back = RingStands p size ring back

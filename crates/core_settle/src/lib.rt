@@ -12,9 +12,15 @@ pub struct Push {
     pub reach: i64,
 }
 
-// What an outer step comes to: every gap holds, or another step is due, or a ring of so many gaps was written.
+// What one turn of the outer loop comes to: every gap holds, or another step is due, or a ring of so many gaps was written.
 pub enum TurnEnd {
     Done,
     Again,
+    Ring(usize),
+}
+
+// What the outer loop comes to: every gap holds where the labels stand, or a ring of so many gaps was written.
+pub enum Found {
+    Placed,
     Ring(usize),
 }

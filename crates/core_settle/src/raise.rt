@@ -36,13 +36,8 @@ pub(crate) fn raise(
     mark: &mut GapBytes,
     wanted: &LabelInts,
     weight: &LabelInts,
-    at: &mut LabelIndices,
-    queue: &mut LabelIndices,
     via: &mut LabelIndices,
     up: &mut LabelIndices,
-    off: &mut LabelInts,
-    held: &mut LabelInts,
-    share: &mut LabelInts,
     den: &mut LabelInts,
     load: &mut GapInts,
     over: &mut GapInts,
@@ -55,8 +50,7 @@ pub(crate) fn raise(
         × (natAbs h ≤ distanceMost) ⌝ }
     ensures { λ r.
         let p = problemLent labels gaps left right distance kind wanted weight in
-        ⌜ Raised p (before mark) (c .0) (a .0) (b .0) h r (after mark) (after at) (after queue) (after via) (after up)
-        (after off)
+        ⌜ Raised p (before mark) (c .0) (a .0) (b .0) h r (after mark) (after via) (after up)
         × Remarked (before left) (before right) (before mark) (before den) (before load) (before over) (after mark)
         (after den) (after load) (after over) ⌝ }
 {
@@ -94,13 +88,8 @@ pub(crate) fn raise(
             mark,
             wanted,
             weight,
-            at,
-            queue,
             via,
             up,
-            off,
-            held,
-            share,
         );
         match outcome {
             Outcome::Dropped(e) => {

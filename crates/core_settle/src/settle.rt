@@ -1,4 +1,5 @@
 // The outer loop.
+use crate::Found;
 use crate::TurnEnd;
 use crate::turn::turn;
 use ground::limits::GapBytes;
@@ -12,7 +13,7 @@ ghost use Rattle.core_standing.specs.Standing.{Standing};
 ghost use Rattle.core_settle.specs.Settle.{SettleSays};
 ghost use Rattle.ground.specs.Views.{after};
 
-// Takes outer steps until every gap holds (0), or a ring of so many gaps was written.
+// Takes outer steps until every gap holds, or a ring of so many gaps was written.
 pub fn settle(
     labels: usize,
     gaps: usize,
@@ -27,16 +28,9 @@ pub fn settle(
     den: &mut LabelInts,
     ring: &mut LabelIndices,
     back: &mut LabelBytes,
-    at: &mut LabelIndices,
-    queue: &mut LabelIndices,
-    via: &mut LabelIndices,
-    up: &mut LabelIndices,
-    off: &mut LabelInts,
-    held: &mut LabelInts,
-    share: &mut LabelInts,
     load: &mut GapInts,
     over: &mut GapInts,
-) -> usize
+) -> Found
     requires { let p = problemNow labels gaps left right distance kind wanted weight in
         ⌜ Limits p
         × Standing p (now mark) (now num) (now den) (now load) (now over) ⌝ }
@@ -59,22 +53,15 @@ pub fn settle(
             den,
             ring,
             back,
-            at,
-            queue,
-            via,
-            up,
-            off,
-            held,
-            share,
             load,
             over,
         );
         match next {
             TurnEnd::Done => {
-                return 0;
+                return Found::Placed;
             }
             TurnEnd::Ring(size) => {
-                return size;
+                return Found::Ring(size);
             }
             TurnEnd::Again => {}
         }

@@ -11,6 +11,7 @@ use ground::Label;
 use ground::limits::GapBytes;
 use ground::limits::GapIndices;
 use ground::limits::GapInts;
+use ground::limits::LABELS;
 use ground::limits::LabelBytes;
 use ground::limits::LabelIndices;
 use ground::limits::LabelInts;
@@ -66,13 +67,6 @@ pub(crate) fn turn(
     den: &mut LabelInts,
     ring: &mut LabelIndices,
     back: &mut LabelBytes,
-    at: &mut LabelIndices,
-    queue: &mut LabelIndices,
-    via: &mut LabelIndices,
-    up: &mut LabelIndices,
-    off: &mut LabelInts,
-    held: &mut LabelInts,
-    share: &mut LabelInts,
     load: &mut GapInts,
     over: &mut GapInts,
 ) -> TurnEnd
@@ -91,6 +85,8 @@ pub(crate) fn turn(
     let push = push_of(e, backwards, left, right, distance);
     let a = push.from;
     let b = push.to;
+    let mut via = [0usize; LABELS];
+    let mut up = [0usize; LABELS];
     let reached = raise(
         labels,
         gaps,
@@ -105,13 +101,8 @@ pub(crate) fn turn(
         mark,
         wanted,
         weight,
-        at,
-        queue,
-        via,
-        up,
-        off,
-        held,
-        share,
+        &mut via,
+        &mut up,
         den,
         load,
         over,
@@ -126,12 +117,8 @@ pub(crate) fn turn(
             mark,
             wanted,
             weight,
-            at,
-            queue,
-            via,
-            up,
-            off,
-            held,
+            &mut via,
+            &mut up,
             num,
             den,
             load,
@@ -139,5 +126,5 @@ pub(crate) fn turn(
         );
         return TurnEnd::Again;
     }
-    TurnEnd::Ring(way(e, backwards, a, b, left, via, up, ring, back))
+    TurnEnd::Ring(way(e, backwards, a, b, left, &via, &up, ring, back))
 }

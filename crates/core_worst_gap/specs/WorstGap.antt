@@ -15,28 +15,35 @@ use Rattle.core_worst_gap.specs.declared.Worst.{Worst}
 use Rattle.core_worst_gap.specs.declared.Worst.the-variants.{Nothing, Gap}
 use Rattle.ground.specs.Limits.{blockWeightMost, distanceMost, gapsMost, labelsMost, momentMost}
 
--- place(a) + h, and place(b), over the product of the denominators
+-- place(a) + h, over the product of the denominators
 abbrev pub reachOf : List ℤ → List ℤ → ℕ → ℕ → ℤ → ℤ
 reachOf num den a b h = int num a *ℤ int den b +ℤ h *ℤ (int den a *ℤ int den b)
 
+-- place(b), over that product
 abbrev pub standsAt : List ℤ → List ℤ → ℕ → ℕ → ℤ
 standsAt num den a b = int num b *ℤ int den a
 
--- gap e holds
+-- what stands holds a gap of a kind that asks for this reach
 abbrev pub HoldsBy : Kind → ℤ → ℤ → Type 0
 HoldsBy at-least reach stands = reach ≤ℤ stands
 HoldsBy exactly reach stands = reach ≡ stands
 HoldsBy ignored reach stands = Unit {0}
 
+-- gap e holds
 abbrev pub GapHolds : (left right : List ℕ) (distance : List ℤ) (kind : List ℕ) (num den : List ℤ) → ℕ → Type 0
-GapHolds left right distance kind num den e = HoldsBy (kindOf (nat kind e)) (reachOf num den (nat left e) (nat right e) (int distance e)) (standsAt num den (nat left e) (nat right e))
+GapHolds left right distance kind num den e =
+    HoldsBy (kindOf (nat kind e))
+    (reachOf num den (nat left e) (nat right e) (int distance e))
+    (standsAt num den (nat left e) (nat right e))
 
 -- gap e does not hold; pushed backwards, an exact gap's right end stands too far right
 abbrev pub Lacks : (left right : List ℕ) (distance : List ℤ) (kind : List ℕ) (num den : List ℤ) → ℕ → Bool → Type 0
 Lacks left right distance kind num den e false =
-    (kindOf (nat kind e) ≢ ignored) × (standsAt num den (nat left e) (nat right e) <ℤ reachOf num den (nat left e) (nat right e) (int distance e))
+    (kindOf (nat kind e) ≢ ignored)
+    × (standsAt num den (nat left e) (nat right e) <ℤ reachOf num den (nat left e) (nat right e) (int distance e))
 Lacks left right distance kind num den e true =
-    (kindOf (nat kind e) ≡ exactly) × (standsAt num den (nat right e) (nat left e) <ℤ reachOf num den (nat right e) (nat left e) (pos 0 -ℤ int distance e))
+    (kindOf (nat kind e) ≡ exactly)
+    × (standsAt num den (nat right e) (nat left e) <ℤ reachOf num den (nat right e) (nat left e) (pos 0 -ℤ int distance e))
 
 -- what the search for a gap that does not hold says of the first k gaps
 abbrev pub WorstOf : (left right : List ℕ) (distance : List ℤ) (kind : List ℕ) (num den : List ℤ) → ℕ → Worst → Type 0

@@ -1,5 +1,6 @@
-// The search for a gap that does not hold: the one that lacks most, by whole units.
+// The search for a gap that does not hold.
 use ground::GapNumber;
+use ground::Label;
 use ground::limits::GapBytes;
 use ground::limits::GapIndices;
 use ground::limits::GapInts;
@@ -18,14 +19,14 @@ ghost use Rattle.core_worst_gap.specs.WorstGap.{Comparable, PlaceInRange
 ghost use Rattle.ground.specs.Limits.{distanceMost};
 ghost use Rattle.ground.specs.Views.{before};
 
-// The gap that holds least, and whether it is pushed backwards; or none, where every gap holds.
+// A gap that does not hold, and whether it is pushed backwards; or none, where every gap holds.
 pub enum Worst {
     Nothing,
     Gap(GapNumber, bool),
 }
 
-// The worst gap so far, and how many whole units it lacks. The tag is 0 where there is none, 1, or 2 where it is pushed backwards: with whole
-// words alone the loop copies no padding.
+// The worst gap so far, and how many whole units it lacks. The tag is 0 where there is none, 1, or 2 where it is
+// pushed backwards: with whole words alone the loop copies no padding.
 struct Lead {
     tag: usize,
     gap: GapNumber,
@@ -43,7 +44,8 @@ fn told(lead: Lead) -> Worst
     Worst::Gap(gap, lead.tag == 2)
 }
 
-// The gap that lacks more whole units: the lead, or gap e.
+// Gap e, or the lead where that is a gap: whichever lacks more whole units, so that the outer loop ends soon.
+// (It ends with any gap that does not hold, so the contract leaves the choice open.)
 fn better(lead: Lead, e: GapNumber, tag: usize, whole: i64) -> Lead
     requires { ⌜ tag ≢ 0 ⌝ }
     ensures { λ r. ⌜ (leadOf r ≡ Gap e (eqb tag 2)) ⊎ ((leadOf r ≡ leadOf lead) × (leadOf lead ≢ Nothing)) ⌝ }
@@ -82,15 +84,20 @@ fn whole_part(num: i64, den: i64) -> i64
 }
 
 // How much place b lacks to stand h to the right of place a, over the product of the denominators.
-fn lack_of(a: usize, b: usize, h: i64, num: &LabelInts, den: &LabelInts) -> i64
-    requires { ⌜ PlaceInRange (now num) (now den) a ⌝ }
-    requires { ⌜ PlaceInRange (now num) (now den) b ⌝ }
+fn lack_of(a: Label, b: Label, h: i64, num: &LabelInts, den: &LabelInts) -> i64
+    requires { ⌜ PlaceInRange (now num) (now den) (a .0) ⌝ }
+    requires { ⌜ PlaceInRange (now num) (now den) (b .0) ⌝ }
     requires { ⌜ natAbs h ≤ distanceMost ⌝ }
-    ensures { λ r. ⌜ r ≡ reachOf (before num) (before den) a b h -ℤ standsAt (before num) (before den) a b ⌝ }
+    ensures { λ r.
+        let reach = reachOf (before num) (before den) (a .0) (b .0) h in
+        let stands = standsAt (before num) (before den) (a .0) (b .0) in
+        ⌜ r ≡ reach -ℤ stands ⌝ }
 {
-    let start = times(num[a], den[b]);
-    let span = times(h, times(den[a], den[b]));
-    let stands = times(num[b], den[a]);
+    let i = a.0;
+    let j = b.0;
+    let start = times(num[i], den[j]);
+    let span = times(h, times(den[i], den[j]));
+    let stands = times(num[j], den[i]);
     short_of(start, span, stands)
 }
 
@@ -108,8 +115,8 @@ fn consider(
     requires { ⌜ Comparable (e .0 + 1) (now left) (now right) (now distance) (now num) (now den) ⌝ }
     requires { ⌜ WorstOf (now left) (now right) (now distance) (now kind) (now num) (now den) (e .0) (leadOf lead) ⌝ }
     ensures { λ r.
-        ⌜ WorstOf (before left) (before right) (before distance) (before kind) (before num) (before den) (e .0 + 1) (leadOf r)
-        ⌝ }
+        ⌜ WorstOf (before left) (before right) (before distance) (before kind) (before num) (before den) (e .0 + 1)
+        (leadOf r) ⌝ }
 {
     let k = e.0;
     let what = kind[k];
@@ -119,7 +126,7 @@ fn consider(
     let u = left[k];
     let v = right[k];
     let both = times(den[u], den[v]);
-    let lack = lack_of(u, v, distance[k], num, den);
+    let lack = lack_of(Label(u), Label(v), distance[k], num, den);
     if 0 < lack {
         return better(lead, e, 1, whole_part(lack, both));
     }
@@ -132,7 +139,7 @@ fn consider(
     lead
 }
 
-// The gap that holds least.
+// A gap that does not hold, if there is one.
 pub fn worst_gap(
     gaps: usize,
     left: &GapIndices,

@@ -8,7 +8,8 @@ use Rattle.sheet_checks.specs.Lent.{Read, Written}
 use Rattle.layout.specs.Promise.{Promise}
 use Rattle.ground.specs.Answers.{numberOf, placedAt, ringLengthOf}
 
--- two numbers told at the front of a lent list; setting an entry that the list has not leaves it as it is, so what fits is told
+-- two numbers told at the front of a lent list;
+-- setting an entry that the list has not leaves it as it is, so what fits is told
 abbrev pub told : ℕ → ℕ → List ℕ → List ℕ
 told first second out = set (set out 0 first) 1 second
 

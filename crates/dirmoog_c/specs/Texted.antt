@@ -14,7 +14,8 @@ use Rattle.text_listing.specs.declared.Listed.the-variants as listed
 use Rattle.text_reading.specs.Texts.{Lists, reading}
 use Rattle.dirmoog_c.specs.Exported.{told}
 
--- this paper's number for each case of a reading, and what is told of it: the counts of labels and gaps, or the place and 0
+-- this paper's number for each case of a reading, and what is told of it:
+-- the counts of labels and gaps, or the place and 0
 abbrev pub readNumber : Reading → ℕ
 readNumber (read.Sheet counts) = 0
 readNumber (read.Refused r) = r .number

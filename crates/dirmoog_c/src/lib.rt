@@ -1,4 +1,5 @@
-// The library for C and Rust: thin functions over the proved entries, on numbers and slices only. Anything may be lent.
+// The library for C and Rust: thin functions over the proved entries, on numbers and slices only.
+// Anything may be lent.
 use exact::round::round;
 use ground::Answer;
 use layout::lists::lay_out;
@@ -60,7 +61,8 @@ fn put_signed(out: &mut [i64], at: usize, x: i64)
     }
 }
 
-// Lays out a sheet whose gaps are lent as three lists. Gives 0 for placed, else the refusal's number; out is told the place and the ring's length.
+// Lays out a sheet whose gaps are lent as three lists.
+// Gives 0 for placed, else the refusal's number; out is told the place and the ring's length.
 #[no_mangle]
 pub extern "C" fn dirmoog_layout(
     wanted: &[i64],
@@ -77,8 +79,8 @@ pub extern "C" fn dirmoog_layout(
     out: &mut [usize],
 ) -> usize
     ensures { λ r.
-        let room = roomLent carried «place_num» «place_den» «mult_num» «mult_den» ring in
         let sheet = sheetLent wanted weight left right distance in
+        let room = roomLent carried «place_num» «place_den» «mult_num» «mult_den» ring in
         ⌜ Laid sheet (room .entry) (before out) r (room .exit) (after out) ⌝ }
 {
     let answer = lay_out(
@@ -100,7 +102,8 @@ pub extern "C" fn dirmoog_layout(
     number
 }
 
-// Rounds a fraction to whole units. Gives 0, or 12 for a bad fraction; out is told the whole number, which is 0 for a refusal.
+// Rounds a fraction to whole units. Gives 0, or 12 for a bad fraction;
+// out is told the whole number, which is 0 for a refusal.
 #[no_mangle]
 pub extern "C" fn dirmoog_round(num: i64, den: i64, out: &mut [i64]) -> usize
     ensures { λ r. ⌜ r ≡ rounding.numberOf (rounding.rounded num den) ⌝ }

@@ -43,7 +43,8 @@ fn read_second(reading: Reading) -> usize
     }
 }
 
-// Reads a text into lent lists. Gives 0 or the refusal's number; out is told the counts of labels and gaps, or the place and 0.
+// Reads a text into lent lists. Gives 0 or the refusal's number;
+// out is told the counts of labels and gaps, or the place and 0.
 #[no_mangle]
 pub extern "C" fn dirmoog_read(
     text: &[u8],
@@ -99,7 +100,8 @@ fn listed_bytes(listed: Listed) -> usize
     }
 }
 
-// Writes the listing of an answer to the front of text. Gives 0 or the refusal's number; out is told the count of bytes, 0 where it is refused.
+// Writes the listing of an answer to the front of text.
+// Gives 0 or the refusal's number; out is told the count of bytes, 0 where it is refused.
 #[no_mangle]
 pub extern "C" fn dirmoog_listing(
     number: usize,

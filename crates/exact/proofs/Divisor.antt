@@ -52,7 +52,8 @@ gcd-swap c = record { left = c .right; right = c .left; greatest = λ k p q. c .
 pub gcd-end : (x : ℕ) → GreatestCommonDivisor x 0 x
 gcd-end x = record { left = dvd-refl x; right = dvd-zero x; greatest = λ k p q. p }
 
--- what divides a multiple of a and the same multiple of d divides that multiple of their greatest common divisor; by Euclid's steps, fewer than f
+-- what divides a multiple of a and the same multiple of d divides that multiple of their greatest common divisor;
+-- by Euclid's steps, fewer than f
 gcd-multiple : (f a d n m g : ℕ) → d < f → GreatestCommonDivisor a d g → n ∣ a * m → n ∣ d * m → n ∣ g * m
 gcd-multiple zero a d n m g h c p q = absurd (omega arith)
 gcd-multiple (suc f) a zero n m g h c p q = dvd-trans n p (mul-dvd-mul-right a (c .greatest a (dvd-refl a) (dvd-zero a)) m)
@@ -133,7 +134,3 @@ lowest-unique p q hp hq e = λ i. record { num = nums i; den = dens i }
 
     nums : p .num ≡ q .num
     nums = *ℤ-cancel (hq .above) (*ℤ-comm (q .den) (p .num) ∙ e ∙ ap (λ d. q .num *ℤ d) dens ∙ *ℤ-comm (q .num) (q .den))
-
--- zero in lowest terms is 0/1
-pub lowest-zero : (p : Fraction) → LowestTerms p → p .num ≡ pos 0 → p .den ≡ pos 1
-lowest-zero p h e = sym (pos-of-above (h .above)) ∙ ap pos (h .reduced (natAbs (p .den)) (rw e (dvd-zero (natAbs (p .den)))) (dvd-refl (natAbs (p .den))))

@@ -1,6 +1,7 @@
--- The theory of fractions: the order and the arithmetic of cross products, and fractions as whole numbers over a common scale.
+-- The theory of fractions: the order and the arithmetic of cross products,
+-- and fractions as whole numbers over a common scale.
 use mathlib.Core.Path.{_≡_, refl, sym, _∙_, ap}
-use mathlib.Core.Logic.{_⊎_, _↔_, ⊎-elim}
+use mathlib.Core.Logic.{_⊎_, _↔_}
 use mathlib.Core.Bool.{Bool, true, false, cond}
 use mathlib.Core.List.{List, [], _∷_}
 use Prim.Native.Nat.{ℕ, zero, suc, _<_}
@@ -13,20 +14,15 @@ use Rattle.exact.specs.declared.Fraction.{Fraction}
 use Rattle.exact.specs.Fraction.{IsFraction, _≃_, _≼_, _≺_, _⊕_, _⊖_, _⊛_, whole, square}
 use Rattle.algebra.specs.Sum.{sum}
 use Rattle.exact.specs.Total.{total}
-use Rattle.algebra.proofs.Whole.{le-trans, le-antisym, le-of-eq, le-of-lt, not-le-of-lt, le-or-lt, *ℤ-assoc, *ℤ-le, *ℤ-le-cancel, *ℤ-cancel, *ℤ-above}
+use Rattle.algebra.proofs.Whole.{le-trans, le-antisym, le-of-eq, le-of-lt, le-or-lt, *ℤ-assoc, *ℤ-le, *ℤ-le-cancel, *ℤ-cancel, *ℤ-above}
 use Rattle.algebra.proofs.Ring.{quotes, ring, le-given, eq-given, le-goal, eq-goal}
 
--- ---- equality
+-- ---- the order
 
--- reflexive
-pub ≃-refl : (q : Fraction) → q ≃ q
-≃-refl q = refl
+-- At most is reflexive, transitive, antisymmetric and total, and equality is transitive:
+-- so fractions compare as numbers do, which document 01 takes for granted. Not every law is cited.
 
--- symmetric
-pub ≃-sym : (q r : Fraction) → q ≃ r → r ≃ q
-≃-sym q r e = sym e
-
--- transitive, through a denominator above zero
+-- equality, through a denominator above zero
 pub ≃-trans : (q r s : Fraction) → IsFraction r → q ≃ r → r ≃ s → q ≃ s
 ≃-trans q r s h e f =
     let ρ : List ℤ = q .num ∷ q .den ∷ r .num ∷ r .den ∷ s .num ∷ s .den ∷ [] in
@@ -34,12 +30,6 @@ pub ≃-trans : (q r s : Fraction) → IsFraction r → q ≃ r → r ≃ s → 
     (eq-goal ρ (search quotes depth 12) (search quotes depth 12)
     (omega
     (arith, eq-given ρ (search quotes depth 12) (search quotes depth 12) (ap (λ x. s .den *ℤ x) e), eq-given ρ (search quotes depth 12) (search quotes depth 12) (ap (λ x. q .den *ℤ x) f))))
-
--- ---- order
-
--- equal fractions are at most each other
-pub ≼-of-≃ : (q r : Fraction) → q ≃ r → q ≼ r
-≼-of-≃ q r e = le-of-eq e
 
 -- reflexive
 pub ≼-refl : (q : Fraction) → q ≼ q
@@ -54,39 +44,13 @@ pub ≼-trans : (q r s : Fraction) → IsFraction q → IsFraction r → IsFract
     (omega
     (arith, le-given ρ (search quotes depth 12) (search quotes depth 12) (*ℤ-le (le-of-lt hs) e), le-given ρ (search quotes depth 12) (search quotes depth 12) (*ℤ-le (le-of-lt hq) f))))
 
--- total and decidable
-pub ≼-or-≺ : (q r : Fraction) → (q ≼ r) ⊎ (r ≺ q)
-≼-or-≺ q r = le-or-lt (q .num *ℤ r .den) (r .num *ℤ q .den)
-
--- below is at most
-pub ≼-of-≺ : (q r : Fraction) → q ≺ r → q ≼ r
-≼-of-≺ q r h = le-of-lt h
-
--- below and at least exclude each other
-pub not-≼-of-≺ : (q r : Fraction) → q ≺ r → r ≼ q → ⊥
-not-≼-of-≺ q r h k = not-le-of-lt h k
-
--- antisymmetric
+-- of two fractions that are at most each other
 pub ≼-antisym : (q r : Fraction) → q ≼ r → r ≼ q → q ≃ r
 ≼-antisym q r h k = le-antisym h k
 
--- at most, then below
-pub ≼-≺-trans : (q r s : Fraction) → IsFraction q → IsFraction r → IsFraction s → q ≼ r → r ≺ s → q ≺ s
-≼-≺-trans q r s hq hr hs h k = ⊎-elim (λ (l : s ≼ q). absurd (not-≼-of-≺ r s k (≼-trans s q r hs hq hr l h))) (λ l. l) (≼-or-≺ s q)
-
--- below, then at most
-pub ≺-≼-trans : (q r s : Fraction) → IsFraction q → IsFraction r → IsFraction s → q ≺ r → r ≼ s → q ≺ s
-≺-≼-trans q r s hq hr hs h k = ⊎-elim (λ (l : s ≼ q). absurd (not-≼-of-≺ q r h (≼-trans r s q hr hs hq k l))) (λ l. l) (≼-or-≺ s q)
-
--- the order respects equality on both sides
-pub ≼-resp : (q q′ r r′ : Fraction) → IsFraction q → IsFraction q′ → IsFraction r → IsFraction r′ → q ≃ q′ → r ≃ r′ → q ≼ r → q′ ≼ r′
-≼-resp q q′ r r′ hq hq′ hr hr′ e f h =
-    ≼-trans q′ q r′ hq′ hq hr′ (le-of-eq (sym e)) (≼-trans q r r′ hq hr hr′ h (le-of-eq f))
-
--- and so does being below
-pub ≺-resp : (q q′ r r′ : Fraction) → IsFraction q → IsFraction q′ → IsFraction r → IsFraction r′ → q ≃ q′ → r ≃ r′ → q ≺ r → q′ ≺ r′
-≺-resp q q′ r r′ hq hq′ hr hr′ e f h =
-    ≼-≺-trans q′ q r′ hq′ hq hr′ (le-of-eq (sym e)) (≺-≼-trans q r r′ hq hr hr′ h (le-of-eq f))
+-- one of two is at most the other, or above it
+pub ≼-or-≺ : (q r : Fraction) → (q ≼ r) ⊎ (r ≺ q)
+≼-or-≺ q r = le-or-lt (q .num *ℤ r .den) (r .num *ℤ q .den)
 
 -- ---- arithmetic keeps the denominator above zero
 
@@ -98,10 +62,6 @@ pub ⊕-above : (q r : Fraction) → IsFraction q → IsFraction r → IsFractio
 pub ⊖-above : (q r : Fraction) → IsFraction q → IsFraction r → IsFraction (q ⊖ r)
 ⊖-above q r h k = *ℤ-above h k
 
--- a multiple
-pub ⊛-above : (k : ℤ) (q : Fraction) → IsFraction q → IsFraction (k ⊛ q)
-⊛-above k q h = h
-
 -- a square
 pub square-above : (q : Fraction) → IsFraction q → IsFraction (square q)
 square-above q h = *ℤ-above h h
@@ -109,59 +69,6 @@ square-above q h = *ℤ-above h h
 -- a whole number
 pub whole-above : (z : ℤ) → IsFraction (whole z)
 whole-above z = record { lt = tt }
-
--- ---- arithmetic respects equality and order
-
--- a sum respects equality
-pub ⊕-resp : (q q′ r r′ : Fraction) → q ≃ q′ → r ≃ r′ → q ⊕ r ≃ q′ ⊕ r′
-⊕-resp q q′ r r′ e f =
-    let ρ : List ℤ = q .num ∷ q .den ∷ q′ .num ∷ q′ .den ∷ r .num ∷ r .den ∷ r′ .num ∷ r′ .den ∷ [] in
-    eq-goal ρ (search quotes depth 12) (search quotes depth 12)
-    (omega
-    (arith, eq-given ρ (search quotes depth 12) (search quotes depth 12) (ap (λ x. r .den *ℤ r′ .den *ℤ x) e), eq-given ρ (search quotes depth 12) (search quotes depth 12) (ap (λ x. q .den *ℤ q′ .den *ℤ x) f)))
-
--- a difference respects equality
-pub ⊖-resp : (q q′ r r′ : Fraction) → q ≃ q′ → r ≃ r′ → q ⊖ r ≃ q′ ⊖ r′
-⊖-resp q q′ r r′ e f =
-    let ρ : List ℤ = q .num ∷ q .den ∷ q′ .num ∷ q′ .den ∷ r .num ∷ r .den ∷ r′ .num ∷ r′ .den ∷ [] in
-    eq-goal ρ (search quotes depth 12) (search quotes depth 12)
-    (omega
-    (arith, eq-given ρ (search quotes depth 12) (search quotes depth 12) (ap (λ x. r .den *ℤ r′ .den *ℤ x) e), eq-given ρ (search quotes depth 12) (search quotes depth 12) (ap (λ x. q .den *ℤ q′ .den *ℤ x) f)))
-
--- a multiple respects equality
-pub ⊛-resp : (k : ℤ) (q q′ : Fraction) → q ≃ q′ → k ⊛ q ≃ k ⊛ q′
-⊛-resp k q q′ e =
-    let ρ : List ℤ = k ∷ q .num ∷ q .den ∷ q′ .num ∷ q′ .den ∷ [] in
-    ring ρ (search quotes depth 12) (search quotes depth 12) refl ∙ ap (λ x. k *ℤ x) e ∙ ring ρ (search quotes depth 12) (search quotes depth 12) refl
-
--- a square respects equality
-pub square-resp : (q q′ : Fraction) → q ≃ q′ → square q ≃ square q′
-square-resp q q′ e =
-    let ρ : List ℤ = q .num ∷ q .den ∷ q′ .num ∷ q′ .den ∷ [] in
-    ring ρ (search quotes depth 12) (search quotes depth 12) refl ∙ ap (λ x. x *ℤ x) e ∙ ring ρ (search quotes depth 12) (search quotes depth 12) refl
-
--- a sum respects the order
-pub ⊕-mono : (q q′ r r′ : Fraction) → IsFraction q → IsFraction q′ → IsFraction r → IsFraction r′ → q ≼ q′ → r ≼ r′ → q ⊕ r ≼ q′ ⊕ r′
-⊕-mono q q′ r r′ hq hq′ hr hr′ e f =
-    let ρ : List ℤ = q .num ∷ q .den ∷ q′ .num ∷ q′ .den ∷ r .num ∷ r .den ∷ r′ .num ∷ r′ .den ∷ [] in
-    le-goal ρ (search quotes depth 12) (search quotes depth 12)
-    (omega
-    (arith, le-given ρ (search quotes depth 12) (search quotes depth 12) (*ℤ-le (le-of-lt (*ℤ-above hr hr′)) e), le-given ρ (search quotes depth 12) (search quotes depth 12) (*ℤ-le (le-of-lt (*ℤ-above hq hq′)) f)))
-
--- a difference respects the order on its left and turns it on its right
-pub ⊖-mono : (q q′ r r′ : Fraction) → IsFraction q → IsFraction q′ → IsFraction r → IsFraction r′ → q ≼ q′ → r′ ≼ r → q ⊖ r ≼ q′ ⊖ r′
-⊖-mono q q′ r r′ hq hq′ hr hr′ e f =
-    let ρ : List ℤ = q .num ∷ q .den ∷ q′ .num ∷ q′ .den ∷ r .num ∷ r .den ∷ r′ .num ∷ r′ .den ∷ [] in
-    le-goal ρ (search quotes depth 12) (search quotes depth 12)
-    (omega
-    (arith, le-given ρ (search quotes depth 12) (search quotes depth 12) (*ℤ-le (le-of-lt (*ℤ-above hr hr′)) e), le-given ρ (search quotes depth 12) (search quotes depth 12) (*ℤ-le (le-of-lt (*ℤ-above hq hq′)) f)))
-
--- a multiple by a number that is not below zero respects the order
-pub ⊛-mono : (k : ℤ) (q q′ : Fraction) → pos 0 ≤ℤ k → q ≼ q′ → k ⊛ q ≼ k ⊛ q′
-⊛-mono k q q′ h e =
-    let ρ : List ℤ = k ∷ q .num ∷ q .den ∷ q′ .num ∷ q′ .den ∷ [] in
-    le-goal ρ (search quotes depth 12) (search quotes depth 12)
-    (omega (arith, le-given ρ (search quotes depth 12) (search quotes depth 12) (*ℤ-le h e)))
 
 -- ---- a fraction at a scale
 
@@ -194,14 +101,6 @@ cross-scale′ {r} b a = rw (*ℤ-comm b (r .den)) (cross-scale b a)
 pub ≼-scale : {N x y : ℤ} {q r : Fraction} → pos 0 <ℤ N → IsFraction q → IsFraction r → AtScale N x q → AtScale N y r → (q ≼ r) ↔ (x ≤ℤ y)
 ≼-scale {q} {r} hN hq hr a b = bring-le (*ℤ-above hq hr) hN (cross-scale (r .den) a) (cross-scale′ (q .den) b)
 
--- so is being below
-pub ≺-scale : {N x y : ℤ} {q r : Fraction} → pos 0 <ℤ N → IsFraction q → IsFraction r → AtScale N x q → AtScale N y r → (q ≺ r) ↔ (x <ℤ y)
-≺-scale {x} {y} {q} {r} hN hq hr a b =
-    let back : (r ≼ q) ↔ (y ≤ℤ x) = ≼-scale hN hr hq b a in (
-      (λ h. ⊎-elim (λ (l : y ≤ℤ x). absurd (not-≼-of-≺ q r h (back .1 l))) (λ l. l) (le-or-lt y x)),
-      λ h. ⊎-elim (λ (l : r ≼ q). absurd (not-le-of-lt h (back .0 l))) (λ l. l) (≼-or-≺ r q),
-    )
-
 -- and equality
 pub ≃-scale : {N x y : ℤ} {q r : Fraction} → pos 0 <ℤ N → IsFraction q → IsFraction r → AtScale N x q → AtScale N y r → (q ≃ r) ↔ (x ≡ y)
 ≃-scale {x} {y} {q} {r} hN hq hr a b =
@@ -210,15 +109,6 @@ pub ≃-scale : {N x y : ℤ} {q r : Fraction} → pos 0 <ℤ N → IsFraction q
       (λ e. le-antisym (there .0 (le-of-eq e)) (back .0 (le-of-eq (sym e)))),
       λ e. le-antisym (there .1 (le-of-eq e)) (back .1 (le-of-eq (sym e))),
     )
-
--- two fractions of one number at one scale are equal
-pub same-scale : {N x : ℤ} {q r : Fraction} → pos 0 <ℤ N → AtScale N x q → AtScale N x r → q ≃ r
-same-scale {q} {r} hN a b = *ℤ-cancel hN (sym (cross-scale (r .den) a) ∙ cross-scale′ (q .den) b)
-
--- a fraction has one number at a scale
-pub scale-number : {N x y : ℤ} {q : Fraction} → IsFraction q → AtScale N x q → AtScale N y q → x ≡ y
-scale-number {N} {x} {y} {q} h a b =
-    *ℤ-cancel h (*ℤ-comm (q .den) x ∙ a .cross ∙ sym (b .cross) ∙ *ℤ-comm y (q .den))
 
 -- equal fractions have the same number
 pub scale-resp : {N x : ℤ} {q : Fraction} (r : Fraction) → IsFraction q → q ≃ r → AtScale N x q → AtScale N x r
@@ -347,23 +237,6 @@ common₃ n m l p q r hp hq hr =
     let a : CommonScale₂ n m p q = common₂ n m p q hp hq in
     let b : CommonScale l r = common l r hr in
     record { N = a .N *ℤ b .N; above = *ℤ-above (a .above) (b .above); first = λ i. b .N *ℤ a .first i; second = λ i. b .N *ℤ a .second i; third = λ i. a .N *ℤ b .at i; first-scaled = λ i k. rescale′ (b .N) (a .first-scaled i k); second-scaled = λ i k. rescale′ (b .N) (a .second-scaled i k); third-scaled = λ i k. rescale (a .N) (b .scaled i k) }
-
--- one scale for two families and a fraction
-pub record CommonScaleWith (n m : ℕ) (p q : ℕ → Fraction) (s : Fraction) : Type 0 where
-  pub N : ℤ
-  pub above : pos 0 <ℤ N
-  pub first : ℕ → ℤ
-  pub second : ℕ → ℤ
-  pub one : ℤ
-  pub first-scaled : (i : ℕ) → i < n → AtScale N (first i) (p i)
-  pub second-scaled : (i : ℕ) → i < m → AtScale N (second i) (q i)
-  pub one-scaled : AtScale N one s
-
--- two families and a fraction have one
-pub common-with : (n m : ℕ) (p q : ℕ → Fraction) (s : Fraction) → ((i : ℕ) → i < n → IsFraction (p i)) → ((i : ℕ) → i < m → IsFraction (q i)) → IsFraction s → CommonScaleWith n m p q s
-common-with n m p q s hp hq hs =
-    let a : CommonScale₂ n m p q = common₂ n m p q hp hq in
-    record { N = a .N *ℤ s .den; above = *ℤ-above (a .above) hs; first = λ i. s .den *ℤ a .first i; second = λ i. s .den *ℤ a .second i; one = a .N *ℤ s .num; first-scaled = λ i k. rescale′ (s .den) (a .first-scaled i k); second-scaled = λ i k. rescale′ (s .den) (a .second-scaled i k); one-scaled = rescale (a .N) (scale-self s) }
 
 -- ---- sums of fractions
 

@@ -1,19 +1,22 @@
 -- The order of two fractions as an answer: by their whole parts, and then by their remainders.
-use mathlib.Core.Path.{_≡_, refl, sym, _∙_, ap, ap₂}
+use mathlib.Core.Path.{_≡_, sym, _∙_, ap, ap₂}
 use mathlib.Core.Logic.{_⊎_, inl, inr}
 use mathlib.Core.List.{[]}
 use Prim.Native.Nat.{ℕ, _≤_, _<_, _^_}
 use native.Mathlib.Omega.{arith}
 use native.Mathlib.Nat.{mul-le-mul}
-use lib.IntN.{ℤ, pos, negsuc, natAbs, _+ℤ_, _*ℤ_}
+use lib.IntN.{ℤ, natAbs, _+ℤ_, _*ℤ_}
 use lib.Signed.{_≤ℤ_, _<ℤ_, quotZ, remZ}
 use mir.Syntax.{w64}
 use mir.Val.{SFits, ofZ}
+use mir.ValLaws.{toZ-ofZ}
+use Rattle.ground.specs.Limits.{fractionDenMost, fractionNumMost}
 use Rattle.exact.specs.declared.Fraction.{Fraction}
 use Rattle.exact.specs.declared.Order.the-variants.{Below, Same, Above}
 use Rattle.exact.specs.Divide.{InRange, orderZ, orderOf}
 use Rattle.algebra.proofs.Whole.{pp, nn, parts-+, le-parts, parts-le, lt-parts, parts-lt, le-antisym, le-of-lt, le-or-lt}
-use Rattle.algebra.proofs.Quotient.{test-of-lt, test-of-le, natAbs-*, above-natAbs, quot-most, rem-most, lt-by-quot, gap-by-rem, kept, fits-as, kept-as}
+use Rattle.algebra.proofs.Quotient as quotient
+use Rattle.algebra.proofs.Quotient.{small-fits, test-of-lt, test-of-le, natAbs-*, above-natAbs, quot-most, rem-most, lt-by-quot, gap-by-rem, kept, fits-as, kept-as}
 
 -- ---- the order as an answer
 
@@ -98,37 +101,39 @@ module _ (a b : Fraction) (in-a : InRange a) (in-b : InRange b) where
 -- ---- in 64 bits
 
 module _ (q : Fraction) (ok : InRange q) where
-  pub den-small : natAbs (q .den) ≤ 518400
+  pub den-small : natAbs (q .den) ≤ fractionDenMost
   den-small = omega (arith, above-natAbs (ok .above), le-parts (ok .den-most))
 
-  pub quot-small : natAbs (quotZ (q .num) (q .den)) ≤ 2 ^ 62
+  pub quot-small : natAbs (quotZ (q .num) (q .den)) ≤ fractionNumMost
   quot-small = omega (arith, ok .num-most, quot-most (q .num) (q .den))
 
-  pub rem-small : natAbs (remZ (q .num) (q .den)) < 518400
+  pub rem-small : natAbs (remZ (q .num) (q .den)) < fractionDenMost
   rem-small = omega (arith, den-small, rem-most (q .num) (ok .above))
 
+  num-fits : SFits w64 (q .num)
+  num-fits = small-fits (q .num) (omega (arith, ok .num-most))
+
+  den-fits : SFits w64 (q .den)
+  den-fits = small-fits (q .den) (omega (arith, den-small))
+
   pub num-kept : kept (q .num) ≡ q .num
-  num-kept = kept-as refl (omega (arith, ok .num-most))
+  num-kept = toZ-ofZ w64 (q .num) num-fits
 
   pub den-kept : kept (q .den) ≡ q .den
-  den-kept = kept-as refl (omega (arith, den-small))
+  den-kept = toZ-ofZ w64 (q .den) den-fits
+
+  -- what a division and a remainder ask, and what they give
+  pub division-asks : (0 < ofZ w64 (q .den)) × SFits w64 (quotZ (kept (q .num)) (kept (q .den)))
+  division-asks = quotient.division-asks num-fits den-fits (ok .above)
 
   pub quot-plain : quotZ (kept (q .num)) (kept (q .den)) ≡ quotZ (q .num) (q .den)
-  quot-plain = ap₂ quotZ num-kept den-kept
+  quot-plain = quotient.quot-read num-fits den-fits (ok .above)
 
   pub quot-kept : kept (quotZ (kept (q .num)) (kept (q .den))) ≡ quotZ (q .num) (q .den)
-  quot-kept = kept-as quot-plain (omega (arith, quot-small))
+  quot-kept = quotient.quot-gives num-fits den-fits (ok .above)
 
   pub rem-kept : kept (remZ (kept (q .num)) (kept (q .den))) ≡ remZ (q .num) (q .den)
-  rem-kept = kept-as (ap₂ remZ num-kept den-kept) (omega (arith, rem-small))
-
-  -- what a division and a remainder ask
-  pub division-asks : (0 < ofZ w64 (q .den)) × SFits w64 (quotZ (kept (q .num)) (kept (q .den)))
-  division-asks = (bits-above (ok .above), fits-as quot-plain (omega (arith, quot-small)))
-    where
-      bits-above : {d : ℤ} → pos 0 <ℤ d → 0 < ofZ w64 d
-      bits-above {d = pos d} h = omega (arith, lt-parts h)
-      bits-above {d = negsuc d} h = absurd (omega (arith, lt-parts h))
+  rem-kept = quotient.rem-gives num-fits den-fits (ok .above)
 
 -- a rest times the other fraction's denominator
 module _ (a b : Fraction) (in-a : InRange a) (in-b : InRange b) where
@@ -137,7 +142,7 @@ module _ (a b : Fraction) (in-a : InRange a) (in-b : InRange b) where
       omega (
         arith,
         natAbs-* (remZ (a .num) (a .den)) (b .den),
-        mul-le-mul {n₁ = natAbs (remZ (a .num) (a .den))} {m₁ = natAbs (b .den)} {n₂ = 518400} {m₂ = 518400} (omega (arith, rem-small a in-a)) (den-small b in-b),
+        mul-le-mul {n₁ = natAbs (remZ (a .num) (a .den))} {m₁ = natAbs (b .den)} {n₂ = fractionDenMost} {m₂ = fractionDenMost} (omega (arith, rem-small a in-a)) (den-small b in-b),
       )
 
   product-plain : kept (remZ (kept (a .num)) (kept (a .den))) *ℤ kept (b .den) ≡ remZ (a .num) (a .den) *ℤ b .den

@@ -1,4 +1,5 @@
--- IEEE 754's roundTiesToAway: the nearest whole number, and of two as near the one further from zero; how the code finds it, and when refusal 12 is met.
+-- IEEE 754's roundTiesToAway: the nearest whole number, and of two as near the one further from zero;
+-- how the code finds it, and when refusal 12 is met.
 use mathlib.Core.Path.{_≡_, refl, sym, _∙_, ap, ap₂}
 use mathlib.Core.Logic.{_⊎_, inl, inr, ⊎-elim}
 use mathlib.Core.Bool.{Bool, true, false, cond, _&&_}
@@ -12,24 +13,15 @@ use lib.IntN.{ℤ, pos, negsuc, negℤ, natAbs, _+ℤ_, _-ℤ_, _*ℤ_, negℤ-+
 use lib.Signed.{_≤ℤ_, _<ℤ_, leZ, ltZ, quotZ, remZ}
 use mir.Syntax.{w64}
 use mir.Val.{SFits}
+use Rattle.ground.specs.Limits.{placeDenMost, placeNumMost, fractionDenMost}
 use Rattle.exact.specs.declared.Fraction.{Fraction}
-use Rattle.exact.specs.declared.Rounded.the-variants.{Whole, Refused}
+use Rattle.exact.specs.declared.Rounded.the-variants.{Whole}
 use Rattle.exact.specs.Divide.{InRange}
-use Rattle.exact.specs.Round.{nearestMagnitude, roundTiesToAway, withinPlaces, rounded}
+use Rattle.exact.specs.Round.{nearestMagnitude, roundTiesToAway, withinPlaces, refusal12, rounded}
 use Rattle.algebra.proofs.Whole.{pp, nn, parts-+, pp-neg, nn-neg, le-parts, parts-le, lt-parts, parts-lt, one-part, parts-natAbs, negℤ-*ℤ, le-antisym, le-of-lt, not-le-of-lt, le-or-lt, *ℤ-le}
 use Rattle.algebra.proofs.Ring.{quotes, le-given, le-goal}
-use Rattle.algebra.proofs.Quotient.{natAbs-neg, natAbs-*, natAbs-+, above-natAbs, natAbs-rem, lt-of-test, le-of-test, leZ-of-test, test-of-leZ, next-le, kept, fits-as, kept-as}
+use Rattle.algebra.proofs.Quotient.{natAbs-neg, natAbs-negated, natAbs-*, natAbs-+, above-natAbs, natAbs-rem, lt-of-test, le-of-test, leZ-of-test, test-of-leZ, next-le, kept, fits-as, kept-as}
 use Rattle.exact.proofs.Ordering.{den-kept, quot-small, quot-kept, rem-small, rem-kept}
-
--- ---- examples
-
-minus-three-halves : roundTiesToAway (negsuc 2) (pos 2) ≡ negsuc 1
-unfolding roundTiesToAway
-minus-three-halves = refl
-
-nine-halves : roundTiesToAway (pos 9) (pos 2) ≡ pos 5
-unfolding roundTiesToAway
-nine-halves = refl
 
 -- ---- the quotient, or the whole number next to it
 
@@ -173,8 +165,8 @@ abbrev rest : Fraction → ℤ
 rest q = kept (remZ (kept (q .num)) (kept (q .den)))
 
 module _ (q : Fraction) (ok : InRange q) where
-  away-small : natAbs (pos 0 -ℤ remZ (q .num) (q .den)) < 518400
-  away-small = omega (arith, rem-small q ok, natAbs-+ (pos 0) (negℤ (remZ (q .num) (q .den))), natAbs-neg (remZ (q .num) (q .den)))
+  away-small : natAbs (pos 0 -ℤ remZ (q .num) (q .den)) < fractionDenMost
+  away-small = omega (arith, rem-small q ok, natAbs-negated (remZ (q .num) (q .den)))
 
   pub away-asks : SFits w64 (pos 0 -ℤ rest q)
   away-asks = fits-as (ap (λ (v : ℤ). pos 0 -ℤ v) (rem-kept q ok)) (omega (arith, away-small))
@@ -257,17 +249,17 @@ and-three true true false e = let z : _≡_ {A = ℕ} 0 1 = cc in absurd (omega 
 and-three true false v e = let z : _≡_ {A = ℕ} 0 1 = cc in absurd (omega arith)
 and-three false u v e = let z : _≡_ {A = ℕ} 0 1 = cc in absurd (omega arith)
 
--- a number within 5,472,000,000 either way
-num-within : (num : ℤ) → negsuc 5471999999 ≤ℤ num → num ≤ℤ pos 5472000000 → natAbs num ≤ 5472000000
+-- a numerator within its limit either way
+num-within : (num : ℤ) → negℤ (pos placeNumMost) ≤ℤ num → num ≤ℤ pos placeNumMost → natAbs num ≤ placeNumMost
 num-within (pos n) h k = omega (arith, le-parts k)
 num-within (negsuc n) h k = omega (arith, le-parts h)
 
 module _ (num den : ℤ) where
-  pub within-places : pos 1 ≤ℤ den → den ≤ℤ pos 4800 → negsuc 5471999999 ≤ℤ num → num ≤ℤ pos 5472000000 → Whole (roundTiesToAway num den) ≡ rounded num den
+  pub within-places : pos 1 ≤ℤ den → den ≤ℤ pos placeDenMost → negℤ (pos placeNumMost) ≤ℤ num → num ≤ℤ pos placeNumMost → Whole (roundTiesToAway num den) ≡ rounded num den
   unfolding rounded withinPlaces
-  within-places h k l m = rw (test-of-leZ h, test-of-leZ k, le-leb (natAbs num) 5472000000 (num-within num l m))
+  within-places h k l m = rw (test-of-leZ h, test-of-leZ k, le-leb (natAbs num) placeNumMost (num-within num l m))
 
-  pub in-range : pos 1 ≤ℤ den → den ≤ℤ pos 4800 → negsuc 5471999999 ≤ℤ num → num ≤ℤ pos 5472000000 → InRange (record { num = num; den = den })
+  pub in-range : pos 1 ≤ℤ den → den ≤ℤ pos placeDenMost → negℤ (pos placeNumMost) ≤ℤ num → num ≤ℤ pos placeNumMost → InRange (record { num = num; den = den })
   in-range h k l m =
       record {
         above = parts-lt (omega (arith, le-parts h));
@@ -275,25 +267,25 @@ module _ (num den : ℤ) where
         num-most = omega (arith, num-within num l m);
       }
 
-  refuses : (pos 1 ≤ℤ den → den ≤ℤ pos 4800 → natAbs num ≤ 5472000000 → ⊥) → Refused (record { number = 12; place = 0; ring = 0 }) ≡ rounded num den
+  refuses : (pos 1 ≤ℤ den → den ≤ℤ pos placeDenMost → natAbs num ≤ placeNumMost → ⊥) → refusal12 ≡ rounded num den
   unfolding rounded withinPlaces
   refuses out = go (withinPlaces num den) refl
     where
-      parts : withinPlaces num den ≡ true → (leZ (pos 1) den ≡ true) × ((leZ den (pos 4800) ≡ true) × (leb (natAbs num) 5472000000 ≡ true))
-      parts e = and-three (leZ (pos 1) den) (leZ den (pos 4800)) (leb (natAbs num) 5472000000) e
+      parts : withinPlaces num den ≡ true → (leZ (pos 1) den ≡ true) × ((leZ den (pos placeDenMost) ≡ true) × (leb (natAbs num) placeNumMost ≡ true))
+      parts e = and-three (leZ (pos 1) den) (leZ den (pos placeDenMost)) (leb (natAbs num) placeNumMost) e
 
-      go : (t : Bool) → withinPlaces num den ≡ t → Refused (record { number = 12; place = 0; ring = 0 }) ≡ cond t (Whole (roundTiesToAway num den)) (Refused (record { number = 12; place = 0; ring = 0 }))
+      go : (t : Bool) → withinPlaces num den ≡ t → refusal12 ≡ cond t (Whole (roundTiesToAway num den)) refusal12
       go false e = refl
-      go true e = absurd (out (leZ-of-test (parts e .0)) (leZ-of-test (parts e .1 .0)) (leb-true (natAbs num) 5472000000 (parts e .1 .1)))
+      go true e = absurd (out (leZ-of-test (parts e .0)) (leZ-of-test (parts e .1 .0)) (leb-true (natAbs num) placeNumMost (parts e .1 .1)))
 
-  pub refuses-den-low : den <ℤ pos 1 → Refused (record { number = 12; place = 0; ring = 0 }) ≡ rounded num den
+  pub refuses-den-low : den <ℤ pos 1 → refusal12 ≡ rounded num den
   refuses-den-low h = refuses (λ a b n. not-le-of-lt h a)
 
-  pub refuses-den-high : pos 4800 <ℤ den → Refused (record { number = 12; place = 0; ring = 0 }) ≡ rounded num den
+  pub refuses-den-high : pos placeDenMost <ℤ den → refusal12 ≡ rounded num den
   refuses-den-high h = refuses (λ a b n. not-le-of-lt h b)
 
-  pub refuses-num-low : num <ℤ negsuc 5471999999 → Refused (record { number = 12; place = 0; ring = 0 }) ≡ rounded num den
-  refuses-num-low h = refuses (λ a b (n : natAbs num ≤ 5472000000). omega (arith, lt-parts h, parts-natAbs num))
+  pub refuses-num-low : num <ℤ negℤ (pos placeNumMost) → refusal12 ≡ rounded num den
+  refuses-num-low h = refuses (λ a b (n : natAbs num ≤ placeNumMost). omega (arith, lt-parts h, parts-natAbs num))
 
-  pub refuses-num-high : pos 5472000000 <ℤ num → Refused (record { number = 12; place = 0; ring = 0 }) ≡ rounded num den
-  refuses-num-high h = refuses (λ a b (n : natAbs num ≤ 5472000000). omega (arith, lt-parts h, parts-natAbs num))
+  pub refuses-num-high : pos placeNumMost <ℤ num → refusal12 ≡ rounded num den
+  refuses-num-high h = refuses (λ a b (n : natAbs num ≤ placeNumMost). omega (arith, lt-parts h, parts-natAbs num))

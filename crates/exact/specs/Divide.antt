@@ -1,8 +1,9 @@
 -- The greatest common divisor, and the order of two fractions as an answer.
-use Prim.Native.Nat.{ℕ, _∣_, _≤_, _^_}
+use Prim.Native.Nat.{ℕ, _∣_, _≤_}
 use mathlib.Core.Bool.{cond}
 use lib.IntN.{ℤ, pos, natAbs, _*ℤ_}
 use lib.Signed.{_<ℤ_, _≤ℤ_, ltZ}
+use Rattle.ground.specs.Limits.{fractionDenMost, fractionNumMost}
 use Rattle.exact.specs.declared.Fraction.{Fraction}
 use Rattle.exact.specs.declared.known.Divisor.{Divisor}
 use Rattle.exact.specs.declared.Order.{Order}
@@ -32,8 +33,8 @@ orderZ x y = cond (ltZ x y) Below (cond (ltZ y x) Above Same)
 unfoldable pub orderOf : Fraction → Fraction → Order
 orderOf a b = orderZ (a .num *ℤ b .den) (b .num *ℤ a .den)
 
--- the fractions that the comparison and the rounding below take: a denominator from 1 to 518,400, a numerator within 2 to the power 62
+-- the fractions that the comparison and the rounding take: a denominator from 1, and both within their limits
 pub record InRange (q : Fraction) : Type 0 where
   pub above : pos 0 <ℤ q .den
-  pub den-most : q .den ≤ℤ pos 518400
-  pub num-most : natAbs (q .num) ≤ 2 ^ 62
+  pub den-most : q .den ≤ℤ pos fractionDenMost
+  pub num-most : natAbs (q .num) ≤ fractionNumMost

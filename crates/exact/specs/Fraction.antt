@@ -1,4 +1,5 @@
--- Fractions (document 01, "Least move"): a whole number over a whole number above zero, compared and added over a common denominator.
+-- Fractions (document 01, "Least move"): a whole number over a whole number above zero,
+-- compared and added over a common denominator.
 use mathlib.Core.Path.{_≡_}
 use Prim.Native.Nat.{ℕ, _∣_}
 use lib.IntN.{ℤ, pos, natAbs, _+ℤ_, _-ℤ_, _*ℤ_}

@@ -1,9 +1,11 @@
--- Whole units (document 01): the nearest whole number, halves away from zero, as IEEE 754's roundTiesToAway; and refusal 12.
+-- Whole units (document 01): the nearest whole number, halves away from zero, as IEEE 754's roundTiesToAway;
+-- and refusal 12.
 use Prim.Native.Nat.{ℕ, _+_, _*_, _/_, _%_}
 use mathlib.Core.Bool.{Bool, cond, _&&_}
 use lib.Dec.{ltb, leb}
 use lib.IntN.{ℤ, pos, negsuc, negℤ, natAbs}
 use lib.Signed.{leZ}
+use Rattle.ground.specs.Limits.{placeDenMost, placeNumMost}
 use Rattle.exact.specs.declared.Rounded.{Rounded}
 use Rattle.exact.specs.declared.Rounded.the-variants.{Whole, Refused}
 
@@ -22,11 +24,15 @@ roundTiesToAway num den = onSide num (nearestMagnitude (natAbs num) (natAbs den)
 
 -- what refusal 12 is not met by: a denominator from 1 to 4,800 and a numerator within 5,472,000,000 either way
 unfoldable pub withinPlaces : ℤ → ℤ → Bool
-withinPlaces num den = leZ (pos 1) den && leZ den (pos 4800) && leb (natAbs num) 5472000000
+withinPlaces num den = leZ (pos 1) den && leZ den (pos placeDenMost) && leb (natAbs num) placeNumMost
 
--- the answer: the whole unit, or refusal 12 with place 0
+-- refusal 12, whose place is 0
+abbrev pub refusal12 : Rounded
+refusal12 = Refused (record { number = 12; place = 0; ring = 0 })
+
+-- the answer: the whole unit, or refusal 12
 unfoldable pub rounded : ℤ → ℤ → Rounded
-rounded num den = cond (withinPlaces num den) (Whole (roundTiesToAway num den)) (Refused (record { number = 12; place = 0; ring = 0 }))
+rounded num den = cond (withinPlaces num den) (Whole (roundTiesToAway num den)) refusal12
 
 -- the number of an answer (0: not refused), its place, and the whole number given, which is 0 where it is refused
 abbrev pub numberOf : Rounded → ℕ

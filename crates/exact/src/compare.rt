@@ -17,7 +17,8 @@ fn order_of(x: i64, y: i64) -> Order
     }
 }
 
-// Where a stands to b: by the whole parts, and by the remainders only where those agree, so that no product overflows.
+// Where a stands to b: by the whole parts, and by the remainders only where those agree,
+// so that no product overflows.
 pub fn compare(a: Fraction, b: Fraction) -> Order
     requires { ⌜ InRange a × InRange b ⌝ }
     ensures { λ r. ⌜ r ≡ orderOf a b ⌝ }

@@ -18,7 +18,8 @@ fn nearer(a: u64, b: u64) -> u64
     if a < b { a } else { b }
 }
 
-// The greatest common divisor, by Euclid's remainders. Each is taken to the nearer multiple, so that y at least halves at every turn.
+// The greatest common divisor, by Euclid's remainders.
+// Each is taken to the nearer multiple, so that y at least halves at every turn.
 pub fn gcd(a: u64, b: u64) -> u64
     ensures { λ r. ⌜ GreatestCommonDivisor a b r ⌝ }
 {
@@ -48,8 +49,8 @@ fn remainder(num: i64, den: i64) -> i64
     num % den
 }
 
-// The divisor of a fraction: the one known before, where denominator and remainder are the same. The remainder stands in for the numerator,
-// so that no magnitude overflows.
+// The divisor of a fraction: the one known before, where denominator and remainder are the same.
+// The remainder stands in for the numerator, so that no magnitude overflows.
 pub fn divisor(num: i64, den: i64, before: Divisor) -> Divisor
     requires { ⌜ (pos 0 <ℤ den) × IsDivisor before ⌝ }
     ensures { λ r. ⌜ IsDivisor r × (r .den ≡ den) × (r .rest ≡ remZ num den) ⌝ }

@@ -1,9 +1,11 @@
 // Rounding to whole units, with refusal 12.
 use crate::Rounded;
 use ground::Refusal;
+use ground::limits::PLACE_DEN_MOST;
+use ground::limits::PLACE_NUM_MOST;
 ghost use mathlib.Core.Path.{_≡_};
 ghost use Rattle.exact.specs.Divide.{InRange};
-ghost use Rattle.exact.specs.Round.{roundTiesToAway, rounded, numberOf, placeOf, wholeOf};
+ghost use Rattle.exact.specs.Round.{roundTiesToAway, refusal12, rounded, numberOf, placeOf, wholeOf};
 
 impl Rounded {
     // The refusal's number, or 0.
@@ -45,11 +47,7 @@ pub(crate) fn nearest(num: i64, den: i64) -> i64
     let whole = num / den;
     let rest = num % den;
     if rest < 0 {
-        if 2 * (0 - rest) < den {
-            whole
-        } else {
-            whole - 1
-        }
+        if 2 * -rest < den { whole } else { whole - 1 }
     } else {
         if 2 * rest < den { whole } else { whole + 1 }
     }
@@ -57,7 +55,7 @@ pub(crate) fn nearest(num: i64, den: i64) -> i64
 
 // Refusal 12, whose place is 0.
 fn refused() -> Rounded
-    ensures { λ r. ⌜ r ≡ Rounded.Refused (record { number = 12; place = 0; ring = 0 }) ⌝ }
+    ensures { λ r. ⌜ r ≡ refusal12 ⌝ }
 {
     Rounded::Refused(Refusal {
         number: 12,
@@ -73,13 +71,13 @@ pub fn round(num: i64, den: i64) -> Rounded
     if den < 1 {
         return refused();
     }
-    if 4800 < den {
+    if PLACE_DEN_MOST < den {
         return refused();
     }
-    if num < -5472000000 {
+    if num < -PLACE_NUM_MOST {
         return refused();
     }
-    if 5472000000 < num {
+    if PLACE_NUM_MOST < num {
         return refused();
     }
     Rounded::Whole(nearest(num, den))

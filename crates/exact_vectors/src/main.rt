@@ -1,4 +1,5 @@
-// Vectors of the exact crate, one to a line: both signs, zero, halves and what is next to them, and each limit with its neighbour.
+// Vectors of the exact crate, one to a line: both signs, zero, halves and what is next to them,
+// and each limit with its neighbour.
 // The file stdout has what each line should be, worked out apart from this program.
 use exact::Fraction;
 use exact::Order;
@@ -6,6 +7,8 @@ use exact::compare::compare;
 use exact::divide::gcd;
 use exact::divide::lowest;
 use exact::round::round;
+use ground::limits::FRACTION_DEN_MOST;
+use ground::limits::FRACTION_NUM_MOST;
 use ground::signs::magnitude;
 ghost use mathlib.Core.Path.{_≡_};
 ghost use mathlib.Core.Bool.{true};
@@ -32,10 +35,10 @@ fn within(num: i64, den: i64) -> bool
     if den < 1 {
         return false;
     }
-    if 518400 < den {
+    if FRACTION_DEN_MOST < den {
         return false;
     }
-    magnitude(num) <= 4611686018427387904
+    magnitude(num) <= FRACTION_NUM_MOST
 }
 
 fn show_gcd(a: u64, b: u64) {

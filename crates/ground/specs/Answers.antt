@@ -1,9 +1,9 @@
--- The answer of a layout call, by document 01's number and values for each of its cases.
+-- The answer of a layout call: document 01's number and values for each of its cases.
 use Prim.Native.Nat.{ℕ}
 use Rattle.ground.specs.declared.Answer.{Answer}
 use Rattle.ground.specs.declared.Answer.the-variants.{Placed, Refused}
 
--- this paper's number and values for each case of an answer: 0 for placed
+-- an answer's number, its place, and with 9 the ring's length: each 0 for placed
 abbrev pub numberOf : Answer → ℕ
 numberOf Placed = 0
 numberOf (Refused r) = r .number

@@ -1,5 +1,5 @@
 -- The limits of a sheet (document 01), and those of the core, which are the widest that any of its users needs.
-use Prim.Native.Nat.{ℕ}
+use Prim.Native.Nat.{ℕ, _^_}
 
 -- "labels on a sheet", "gaps on a sheet"
 abbrev pub labelsMost : ℕ
@@ -20,6 +20,20 @@ weightMost = 100
 
 abbrev pub distanceMost : ℕ
 distanceMost = 20000
+
+-- refusal 12: a place's denominator, and its numerator either way
+abbrev pub placeDenMost : ℕ
+placeDenMost = 4800
+
+abbrev pub placeNumMost : ℕ
+placeNumMost = 5472000000
+
+-- a fraction that is compared: its denominator, and its numerator either way
+abbrev pub fractionDenMost : ℕ
+fractionDenMost = 518400
+
+abbrev pub fractionNumMost : ℕ
+fractionNumMost = 2 ^ 62
 
 -- numbers that a byte holds are below this
 abbrev pub bytesMost : ℕ

@@ -1,4 +1,5 @@
--- Views of what is lent: a parameter that is a reference, as an `ensures` sees it, is a pair of what was lent and what is there afterwards.
+-- Views of what is lent: a parameter that is a reference, as an `ensures` sees it,
+-- is a pair of what was lent and what is there afterwards.
 use mathlib.Core.List.{List}
 use denote.Ref.{RefT, now}
 use denote.Triple.Both.{Both}

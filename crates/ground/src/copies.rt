@@ -1,4 +1,5 @@
-// Copies of the first entries of a list to the front of another; what lies behind them stays. One function for each type: the language has no generics.
+// Copies of the first entries of a list to the front of another; what lies behind them stays.
+// One function for each type: the language has no generics.
 ghost use Prim.Native.Nat.{_≤_};
 ghost use mathlib.Core.Path.{_≡_};
 ghost use lib.ListN.{length};

@@ -1,4 +1,5 @@
-// What every crate shares: the limits of a sheet, its work arrays, the numbers of labels, blocks and gaps, a gap as a record, and answers.
+// What every crate shares: the limits of a sheet, its work arrays, the numbers of labels, blocks and gaps,
+// a gap as a record, and answers.
 pub mod bytes;
 pub mod copies;
 pub mod lengths;
@@ -6,9 +7,10 @@ pub mod limits;
 pub mod signs;
 
 // Labels, blocks and gaps by their numbers. Each counts from 0, and none may stand where another is meant.
+// A block's number is kept as a byte.
 pub struct Label(pub usize);
 
-pub struct Block(pub usize);
+pub struct Block(pub u8);
 
 pub struct GapNumber(pub usize);
 

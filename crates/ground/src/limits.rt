@@ -17,6 +17,16 @@ pub const WEIGHT_LEAST: i64 = 1;
 
 pub const WEIGHT_MOST: i64 = 100;
 
+// A place that is rounded: its denominator at most, its numerator either way.
+pub const PLACE_DEN_MOST: i64 = 4800;
+
+pub const PLACE_NUM_MOST: i64 = 5472000000;
+
+// A fraction that is compared: its denominator at most, its numerator's magnitude at most.
+pub const FRACTION_DEN_MOST: i64 = 518400;
+
+pub const FRACTION_NUM_MOST: u64 = 4611686018427387904;
+
 // A number, an index, a byte or a double for each label.
 pub type LabelInts = [i64; LABELS];
 

@@ -77,7 +77,8 @@ equal-of-within a b h = le-antisym (cross-le (a .num) (a .den) (b .num) (b .den)
 
 -- ---- the demand
 
-module _ {r : Read} {w : Written} {a : Answer} {after : Written} {r′ : Read} {w′ : Written} {a′ : Answer} {after′ : Written} (one : Promise r w a after) (two : Promise r′ w′ a′ after′) (same : SameSheets r r′) where
+module _ {r : Read} {w : Written} {a : Answer} {after : Written} {r′ : Read} {w′ : Written} {a′ : Answer} {after′ : Written}
+    (one : Promise r w a after) (two : Promise r′ w′ a′ after′) (same : SameSheets r r′) where
   sheets : SameButWants (sheetOf r) (sheetOf r′)
   sheets = same-sheets r r′ same
 
@@ -86,10 +87,13 @@ module _ {r : Read} {w : Written} {a : Answer} {after : Written} {r′ : Read} {
       let there : (a ≡ Placed) ↔ ((p : Placement) × Feasible (sheetOf r) p) = placed-exactly one e in
       let here : (a′ ≡ Placed) ↔ ((p : Placement) × Feasible (sheetOf r′) p) = placed-exactly two e′ in (
         (λ placed. let p : (p : Placement) × Feasible (sheetOf r) p = there .0 placed in here .1 (p .0, feasible-same (sheetOf r) (sheetOf r′) sheets (p .0) (p .1))),
-        λ placed. let p : (p : Placement) × Feasible (sheetOf r′) p = here .0 placed in there .1 (p .0, feasible-same (sheetOf r′) (sheetOf r) (same-sym (sheetOf r) (sheetOf r′) sheets) (p .0) (p .1)),
+        λ placed. let p : (p : Placement) × Feasible (sheetOf r′) p = here .0 placed in
+            there .1 (p .0, feasible-same (sheetOf r′) (sheetOf r) (same-sym (sheetOf r) (sheetOf r′) sheets) (p .0) (p .1)),
       )
 
-  moved : a ≡ Placed → a′ ≡ Placed → (q : Fraction) → IsFraction q → ((i : Label) → i .0 < labelCount r → Within q (whole (wantOf r i)) (whole (wantOf r′ i))) → (i : Label) → i .0 < labelCount r → Within q (placeOf after i) (placeOf after′ i)
+  moved : a ≡ Placed → a′ ≡ Placed → (q : Fraction) → IsFraction q
+      → ((i : Label) → i .0 < labelCount r → Within q (whole (wantOf r i)) (whole (wantOf r′ i))) → (i : Label) → i .0 < labelCount r
+      → Within q (placeOf after i) (placeOf after′ i)
   unfolding sheetOf
   moved placed placed′ q hq near =
       let f : Accepted r w after = placed-accepted one placed in
@@ -110,5 +114,9 @@ module _ {r : Read} {w : Written} {a : Answer} {after : Written} {r′ : Read} {
         least = placed-least one;
         least′ = placed-least two;
         largest-move = λ placed placed′ q hq _ near. moved placed placed′ q hq near;
-        same-wants = λ placed placed′ wants k h. (ap (λ (p : Fraction). p .num) (same-places placed placed′ wants (label k) h), ap (λ (p : Fraction). p .den) (same-places placed placed′ wants (label k) h));
+        same-wants =
+            λ placed placed′ wants k h. (
+              ap (λ (p : Fraction). p .num) (same-places placed placed′ wants (label k) h),
+              ap (λ (p : Fraction). p .den) (same-places placed placed′ wants (label k) h),
+            );
       }

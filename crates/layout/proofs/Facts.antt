@@ -1,4 +1,5 @@
--- What follows from the promise of a layout call, whichever way the gaps are lent: when a sheet is placed and when it is refused with 9.
+-- What follows from the promise of a layout call, whichever way the gaps are lent:
+-- when a sheet is placed and when it is refused with 9.
 use Prim.Native.Nat.{ℕ, _<_}
 use mathlib.Core.Path.{_≡_, refl, sym, _∙_, ap, subst}
 use mathlib.Core.Logic.{_↔_, ⊎-elim}
@@ -33,7 +34,8 @@ module _ {r : Read} {w after : Written} {a : Answer} (promise : Promise r w a af
   refused-by-table number place e = subst (λ v. ByTable v r w a after) e (promise .kept)
 
   -- any other sheet is placed, or no placement meets all its gaps
-  pub judged : {P : Type 0} → table r w ≡ pass → (a ≡ Placed → Accepted r w after → P) → (a ≡ refusal 9 0 (ringLengthOf a) → ((p : Placement) → ¬ (Feasible (sheetOf r) p)) → RingGiven r w after (ringLengthOf a) → P) → P
+  pub judged : {P : Type 0} → table r w ≡ pass → (a ≡ Placed → Accepted r w after → P)
+      → (a ≡ refusal 9 0 (ringLengthOf a) → ((p : Placement) → ¬ (Feasible (sheetOf r) p)) → RingGiven r w after (ringLengthOf a) → P) → P
   judged {P} e yes-placed not-placed = ⊎-elim (λ k. yes-placed (k .0) (k .1)) (λ k. not-placed (k .0) (k .1) (k .2)) judgement
     where
       judgement : Judged r w a after
@@ -81,7 +83,8 @@ module _ {r : Read} {w after : Written} {a : Answer} (promise : Promise r w a af
   nine-ring e nine = judged e (λ _ accepted. absurd (nine-exactly e .0 nine (placeOf after) (accepted .least .feasible))) (λ refused _ ring. (refused, ring))
 
   -- a placement in lowest terms that has multipliers is the one that is written
-  pub places-known : table r w ≡ pass → (p : Placement) (m : Multipliers) → Conditions (sheetOf r) p m → ((i : Label) → i .0 < labelCount r → LowestTerms (p i)) → (a ≡ Placed) × ((i : Label) → i .0 < labelCount r → placeOf after i ≡ p i)
+  pub places-known : table r w ≡ pass → (p : Placement) (m : Multipliers) → Conditions (sheetOf r) p m
+      → ((i : Label) → i .0 < labelCount r → LowestTerms (p i)) → (a ≡ Placed) × ((i : Label) → i .0 < labelCount r → placeOf after i ≡ p i)
   unfolding sheetOf
   places-known e p m c lowest =
       let placed : a ≡ Placed = placed-exactly e .1 (p, c .feasible) in

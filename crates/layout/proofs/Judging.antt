@@ -1,4 +1,5 @@
--- What the checks leave is what the core asks, and what the core says is what document 01 owes of a sheet that passed.
+-- What the checks leave is what the core asks, and what the core says is what document 01 owes of a sheet that
+-- passed.
 use Prim.Native.Nat.{ℕ, suc, _≤_, _<_}
 use mathlib.Core.Path.{_≡_, refl, sym, _∙_, ap, ap₂, subst}
 use mathlib.Core.Logic.{inl, inr}
@@ -18,7 +19,7 @@ use Rattle.least_move.specs.Multipliers.{Conditions}
 use Rattle.least_move.specs.Marks.{Step, Each}
 use Rattle.least_move.specs.Ring.{Ring, Passable}
 use Rattle.least_move.proofs.Laws.{least-of-conditions, ring-excludes}
-use Rattle.ground.specs.Entries.{nat, int, Filled}
+use Rattle.ground.specs.Entries.{nat, int}
 use Rattle.core_forest.specs.Problem.{Problem, Limits, kindOf, sheetFrom}
 use Rattle.core_ring.specs.Way.{stepsOf, IsRing}
 use Rattle.core_project.specs.Project.{Buffers, Ready, Solved, problemOf}
@@ -170,7 +171,9 @@ module _ (wanted weight : List ℤ) (left right : List ℕ) (distance : List ℤ
       conditions = conditions-agree sheets-agree (s .conditions)
 
   -- a gap that asks for at least its distance is passed forwards
-  forward-steps : (es backs : List ℕ) → length es ≡ length backs → Each (λ t. (t .by .0 < sheetOf sheet .gaps) × Passable (sheetOf sheet .gap (t .by) .kind) (t .backwards)) (stepsOf es backs) → stepsOf es backs ≡ map forwards es
+  forward-steps : (es backs : List ℕ) → length es ≡ length backs
+      → Each (λ t. (t .by .0 < sheetOf sheet .gaps) × Passable (sheetOf sheet .gap (t .by) .kind) (t .backwards)) (stepsOf es backs)
+      → stepsOf es backs ≡ map forwards es
   unfolding sheetOf
   forward-steps [] backs l h = refl
   forward-steps (e ∷ es) [] l h = absurd (omega arith)
@@ -182,7 +185,8 @@ module _ (wanted weight : List ℤ) (left right : List ℕ) (distance : List ℤ
   forward-ring (e ∷ es) [] l r = absurd r
   forward-ring (e ∷ es) (b ∷ backs) l r = subst (IsRing (sheetOf sheet)) (forward-steps (e ∷ es) (b ∷ backs) l (r .passable)) r
 
-  ring-refused : {back : List ℕ} {after : Buffers} {size : ℕ} → length back ≡ 48 → core.RingGiven given (buffersOf w back) after size → ((p : Placement) → ¬ (Feasible (sheetOf sheet) p)) × RingGiven sheet w (writtenOf after) size
+  ring-refused : {back : List ℕ} {after : Buffers} {size : ℕ} → length back ≡ 48 → core.RingGiven given (buffersOf w back) after size
+      → ((p : Placement) → ¬ (Feasible (sheetOf sheet) p)) × RingGiven sheet w (writtenOf after) size
   ring-refused {back} {after} {size} b g = go (take size (after .ring)) refl ring
     where
       ready : Ready wanted weight left right distance (kindsOf left) (buffersOf w back)
@@ -195,7 +199,8 @@ module _ (wanted weight : List ℤ) (left right : List ℕ) (distance : List ℤ
       front-back = length-take-le size (after .back) (omega (arith, g .most, ready .ring-room .1, g .backs .size))
 
       ring : IsRing (sheetOf sheet) (map forwards (take size (after .ring)))
-      ring = forward-ring (take size (after .ring)) (take size (after .back)) (front ∙ sym front-back) (is-ring-agree sheets-agree (stepsOf (take size (after .ring)) (take size (after .back))) (g .ring))
+      ring = forward-ring (take size (after .ring)) (take size (after .back)) (front ∙ sym front-back)
+          (is-ring-agree sheets-agree (stepsOf (take size (after .ring)) (take size (after .back))) (g .ring))
 
       go : (es : List ℕ) → take size (after .ring) ≡ es → IsRing (sheetOf sheet) (map forwards es) → ((p : Placement) → ¬ (Feasible (sheetOf sheet) p)) × RingGiven sheet w (writtenOf after) size
       go [] e r = absurd r
@@ -219,7 +224,8 @@ module _ (wanted weight : List ℤ) (left right : List ℕ) (distance : List ℤ
 
     judged-ring : {size : ℕ} → length back ≡ 48 → found ≡ Found.Ring size → a ≡ refusal 9 0 size → Judged sheet w a (writtenOf after)
     judged-ring {size} b f e =
-        let told : ((p : Placement) → ¬ (Feasible (sheetOf sheet) p)) × RingGiven sheet w (writtenOf after) size = ring-refused b (subst (λ (x : Projected). core.SaysOf given x (buffersOf w back) after) f says) in
+        let told : ((p : Placement) → ¬ (Feasible (sheetOf sheet) p)) × RingGiven sheet w (writtenOf after) size =
+        ring-refused b (subst (λ (x : Projected). core.SaysOf given x (buffersOf w back) after) f says) in
         subst (λ (x : Answer). Judged sheet w x (writtenOf after)) (sym e) (inr (refl, told .0, told .1))
 
     pub judged : length back ≡ 48 → a ≡ answerOf found → Judged sheet w a (writtenOf after)

@@ -89,6 +89,7 @@ zeros carried =
     let multipliers : List ℤ = replicate (length carried) (pos 0) in
     record { place-num = places; place-den = places; mult-num = multipliers; mult-den = multipliers; ring = replicate 2 0; carried = carried }
 
+-- the table lets them pass, so what the wrong parts break is asked of calls that a station can make
 pub P1-passes : (f : Form) → table (P1 f) (zeros (0 ∷ [])) ≡ pass
 unfolding table offender
 P1-passes as-lists = refl
@@ -99,12 +100,13 @@ unfolding table offender
 P2-passes as-lists = refl
 P2-passes as-records = refl
 
--- "carried record marked"
+-- P5, "carried record marked"
 pub P5-passes : (f : Form) → table (P5 f) (zeros (1 ∷ [])) ≡ pass
 unfolding table offender
 P5-passes as-lists = refl
 P5-passes as-records = refl
 
+-- P7, which has a ring: of this call `makes-up-ring` speaks
 pub P7-passes : (f : Form) → table (P7 f) (zeros (0 ∷ 0 ∷ [])) ≡ pass
 unfolding table offender
 P7-passes as-lists = refl
@@ -152,7 +154,8 @@ module _ (d d′ v v′ g x y m : ℤ) where
   abbrev Balanced : Label → Type 0
   Balanced i = pos 2 ⊛ (told .weight i ⊛ move told (at x y) i) ≃ (asRight told (λ _. whole m) i ⊖ asLeft told (λ _. whole m) i)
 
-  module _ (meets : whole x ⊕ whole g ≼ whole y) (lawful : whole (pos 0) ≼ whole m) (slack : ¬ (whole x ⊕ whole g ≃ whole y) → whole m ≃ whole (pos 0)) (first : Balanced (label 0)) (second : Balanced (label 1)) where
+  module _ (meets : whole x ⊕ whole g ≼ whole y) (lawful : whole (pos 0) ≼ whole m)
+      (slack : ¬ (whole x ⊕ whole g ≃ whole y) → whole m ≃ whole (pos 0)) (first : Balanced (label 0)) (second : Balanced (label 1)) where
     pair-conditions : Conditions told (at x y) (λ _. whole m)
     unfolding told sheetOf
     pair-conditions =
@@ -289,8 +292,10 @@ module _ (f : Form) (part : Part) where
 abbrev pub Remembering : Type 0
 Remembering = List (Read × Written) → Part
 
--- one that lays out the first sheet, here P1, and hands its places out again later, for P5
-pub hands-out-again : (part : Remembering) (f f′ : Form) (w w′ : Written) → table (P1 f) w ≡ pass → table (P5 f′) w′ ≡ pass → ((i : Label) → i .0 < 2 → placeOf (part ((P1 f, w) ∷ []) (P5 f′) w′ .1) i ≡ placeOf (part [] (P1 f) w .1) i) → ¬ ((before : List (Read × Written)) → Keeps f (part before) × Keeps f′ (part before))
+-- one that lays out the first sheet, here P1, and hands its places out again later, for P5, in whichever forms
+pub hands-out-again : (part : Remembering) (f f′ : Form) (w w′ : Written) → table (P1 f) w ≡ pass → table (P5 f′) w′ ≡ pass
+    → ((i : Label) → i .0 < 2 → placeOf (part ((P1 f, w) ∷ []) (P5 f′) w′ .1) i ≡ placeOf (part [] (P1 f) w .1) i)
+    → ¬ ((before : List (Read × Written)) → Keeps f (part before) × Keeps f′ (part before))
 hands-out-again part f f′ w w′ e e′ again keeps =
     apart (negsuc 4) (pos 0) (λ z. omega arith)
     (again (label 0) (lit< tt) ∙ P1-lays f w _ _ e (keeps [] .0 (P1 f) w (lent-so f (gap 0 1 (pos 10) ∷ []))) .1 (label 0) (lit< tt))

@@ -1,4 +1,5 @@
--- Demand 3, the largest-move law (document 01, "What a station lends"), of two layout calls. Each is lent its gaps as three lists or as records: "the pair may be one of each".
+-- Demand 3, the largest-move law (document 01, "What a station lends"), of two layout calls.
+-- Each is lent its gaps as three lists or as records: "the pair may be one of each".
 use Prim.Native.Nat.{ℕ, _<_}
 use mathlib.Core.Path.{_≡_}
 use mathlib.Core.Logic.{_↔_}
@@ -14,7 +15,8 @@ use Rattle.ground.specs.declared.Answer.the-variants.{Placed}
 use Rattle.sheet_checks.specs.Lent.{Read, Written, labelCount, gapCount, recordAt, sheetOf, placeOf}
 use Rattle.sheet_checks.specs.Refusals.{pass, table}
 
--- "Two sheets have the same weights and gaps if they have as many labels and as many gaps and agree, number by number, in weight, left, right and distance"
+-- "Two sheets have the same weights and gaps if they have as many labels and as many gaps and agree,
+-- number by number, in weight, left, right and distance"
 pub record SameSheets (r r′ : Read) : Type 0 where
   pub labels : labelCount r′ ≡ labelCount r
   pub gaps : gapCount r′ ≡ gapCount r
@@ -29,7 +31,9 @@ wantOf r i = getD (r .wanted) (i .0) (pos 0)
 abbrev pub Placeable : Read → Type 0
 Placeable r = (p : Placement) × Feasible (sheetOf r) p
 
--- Of two calls on sheets that have the same weights and gaps. "A sheet is accepted if its call answers placed"; the records and buffers lent to write may differ in all they hold.
+-- Of two calls on sheets that have the same weights and gaps.
+-- "A sheet is accepted if its call answers placed";
+-- the records and buffers lent to write may differ in all they hold.
 pub record Demand3 (r : Read) (w : Written) (a : Answer) (after : Written) (r′ : Read) (w′ : Written) (a′ : Answer) (after′ : Written) : Type 0 where
   -- where the table lets both pass, both are accepted or neither
   pub both-or-neither : table r w ≡ pass → table r′ w′ ≡ pass → (a ≡ Placed) ↔ (a′ ≡ Placed)
@@ -39,7 +43,12 @@ pub record Demand3 (r : Read) (w : Written) (a : Answer) (after : Written) (r′
   -- the places are the least moves of demand 2
   pub least : a ≡ Placed → LeastMove (sheetOf r) (placeOf after)
   pub least′ : a′ ≡ Placed → LeastMove (sheetOf r′) (placeOf after′)
-  -- no place moves by more than a distance if no want does: "Differences are taken without sign, and a distance is any fraction from zero up"
-  pub largest-move : a ≡ Placed → a′ ≡ Placed → (q : Fraction) → IsFraction q → whole (pos 0) ≼ q → ((i : Label) → i .0 < labelCount r → Within q (whole (wantOf r i)) (whole (wantOf r′ i))) → (i : Label) → i .0 < labelCount r → Within q (placeOf after i) (placeOf after′ i)
+  -- no place moves by more than a distance if no want does:
+  -- "Differences are taken without sign, and a distance is any fraction from zero up"
+  pub largest-move : a ≡ Placed → a′ ≡ Placed → (q : Fraction) → IsFraction q → whole (pos 0) ≼ q
+      → ((i : Label) → i .0 < labelCount r → Within q (whole (wantOf r i)) (whole (wantOf r′ i))) → (i : Label) → i .0 < labelCount r
+      → Within q (placeOf after i) (placeOf after′ i)
   -- at distance zero the numbers written are the same
-  pub same-wants : a ≡ Placed → a′ ≡ Placed → ((i : Label) → i .0 < labelCount r → wantOf r i ≡ wantOf r′ i) → (k : ℕ) → k < labelCount r → (getD (after .place-num) k (pos 0) ≡ getD (after′ .place-num) k (pos 0)) × (getD (after .place-den) k (pos 0) ≡ getD (after′ .place-den) k (pos 0))
+  pub same-wants : a ≡ Placed → a′ ≡ Placed → ((i : Label) → i .0 < labelCount r → wantOf r i ≡ wantOf r′ i) → (k : ℕ) → k < labelCount r
+      → (getD (after .place-num) k (pos 0) ≡ getD (after′ .place-num) k (pos 0))
+      × (getD (after .place-den) k (pos 0) ≡ getD (after′ .place-den) k (pos 0))

@@ -1,4 +1,5 @@
--- What a layout call owes: its number, its place and every lent entry afterwards (document 01, "What a station lends", "Refusal table", "What is owed by each public entry").
+-- What a layout call owes: its number, its place and every lent entry afterwards (document 01,
+-- "What a station lends", "Refusal table", "What is owed by each public entry").
 use Prim.Native.Nat.{ℕ, suc, _*_, _≤_, _<_}
 use mathlib.Core.Path.{_≡_}
 use mathlib.Core.Logic.{_⊎_}
@@ -29,7 +30,8 @@ byteAt w e = getD (w .carried) (e .0) 0
 abbrev pub markOf : Written → GapNumber → Bool
 markOf w e = eqb (byteAt w e) 1
 
--- "Accepted: the first entries, one per label or gap, hold fractions in lowest terms .. Entries beyond stay. The ring buffer stays. The carried record holds 1 for marked gaps, else 0"
+-- "Accepted: the first entries, one per label or gap, hold fractions in lowest terms .. Entries beyond stay.
+-- The ring buffer stays. The carried record holds 1 for marked gaps, else 0"
 pub record Accepted (r : Read) (w after : Written) : Type 0 where
   pub place-nums : Filled (labelCount r) (w .place-num) (after .place-num)
   pub place-dens : Filled (labelCount r) (w .place-den) (after .place-den)
@@ -51,7 +53,8 @@ pub record Accepted (r : Read) (w after : Written) : Type 0 where
 abbrev pub forwards : ℕ → Step
 forwards e = record { by = gapNumber e; backwards = false }
 
--- "9 fills the front of the ring buffer with gap numbers such that .. The rest of it stays"; everything else stays too
+-- "9 fills the front of the ring buffer with gap numbers such that .. The rest of it stays";
+-- everything else stays too
 pub record RingGiven (r : Read) (w after : Written) (size : ℕ) : Type 0 where
   pub first : ℕ
   pub others : List ℕ

@@ -55,12 +55,12 @@ fn place(
     mult_den: &mut [i64],
     ring: &mut [usize],
 ) -> Answer
-    requires { let room = roomNow carried «place_num» «place_den» «mult_num» «mult_den» ring in
-        let sheet = sheetNow wanted weight left right distance in
+    requires { let sheet = sheetNow wanted weight left right distance in
+        let room = roomNow carried «place_num» «place_den» «mult_num» «mult_den» ring in
         ⌜ table sheet room ≡ pass ⌝ }
     ensures { λ r.
-        let room = roomLent carried «place_num» «place_den» «mult_num» «mult_den» ring in
         let sheet = sheetLent wanted weight left right distance in
+        let room = roomLent carried «place_num» «place_den» «mult_num» «mult_den» ring in
         ⌜ Judged sheet (room .entry) r (room .exit) ⌝ }
 {
     let kinds = [0u8; GAPS];
@@ -84,7 +84,8 @@ fn place(
     answered(found)
 }
 
-// Lays out a sheet. Anything may be lent; a sheet that breaks a rule is refused, and then nothing is written but a ring's gap numbers.
+// Lays out a sheet. Anything may be lent; a sheet that breaks a rule is refused,
+// and then nothing is written but a ring's gap numbers.
 pub fn lay_out(
     wanted: &[i64],
     weight: &[i64],
@@ -99,8 +100,8 @@ pub fn lay_out(
     ring: &mut [usize],
 ) -> Answer
     ensures { λ r.
-        let room = roomLent carried «place_num» «place_den» «mult_num» «mult_den» ring in
         let sheet = sheetLent wanted weight left right distance in
+        let room = roomLent carried «place_num» «place_den» «mult_num» «mult_den» ring in
         ⌜ Promise sheet (room .entry) r (room .exit) ⌝ }
 {
     let room = Room {

@@ -1,17 +1,18 @@
--- One advance of an outer step: the push on a gap grows until a marked gap's multiplier comes to zero, or until the gap is tight.
--- A drift says how places and loads change with the push. All numbers are whole: a state is scaled by k before it moves.
+-- One advance of an outer step: the push on a gap grows until a marked gap's multiplier comes to zero,
+-- or until the gap is tight.
+-- A drift says how places and loads change with the push.
+-- All numbers are whole: a state is scaled by k before it moves.
 use mathlib.Core.Path.{_≡_, refl, sym, _∙_, ap, ap₂}
 use mathlib.Core.Logic.{⊎-elim}
 use mathlib.Core.Bool.{Bool, true}
-use mathlib.Core.List.{List, [], _∷_}
+use mathlib.Core.List.{[], _∷_}
 use Prim.Native.Nat.{ℕ, _<_}
-use native.Mathlib.Omega.{arith}
 use lib.IntN.{ℤ, pos, _+ℤ_, _-ℤ_, _*ℤ_}
 use lib.Signed.{_≤ℤ_, _<ℤ_}
 use lib.Dec.{eqb}
 use Rattle.algebra.specs.Sum.{ind}
-use Rattle.algebra.proofs.Whole.{le-trans, le-of-eq, le-of-lt, le-or-lt, *ℤ-nonneg, *ℤ-le-cancel, *ℤ-cancel, +ℤ-le}
-use Rattle.algebra.proofs.Ring.{ring, quotes, le-given, le-goal, le-by}
+use Rattle.algebra.proofs.Whole.{le-trans, le-of-eq, le-of-lt, le-or-lt, *ℤ-nonneg, *ℤ-le-cancel, *ℤ-cancel, +ℤ-le, sub-nonneg}
+use Rattle.algebra.proofs.Ring.{ring, quotes, le-by}
 use Rattle.least_move.specs.States.{flow, OnlyOn, push, State}
 use Rattle.least_move.proofs.Flow.{flow-lin}
 
@@ -48,7 +49,8 @@ module _ {n m : ℕ} {u v : ℕ → ℕ} {w D G D' G' : ℕ → ℤ} {F : ℕ �
 
 -- ---- the sign of a load after the advance
 
--- What the code knows of a marked gap that the push acts on: over the block's weight W its load is N·r − s·q, and it changes by −c·q.
+-- What the code knows of a marked gap that the push acts on:
+-- over the block's weight W its load is N·r − s·q, and it changes by −c·q.
 -- r / q is its breaking point where q is above zero.
 pub record Rate (N s c W r q load change : ℤ) : Type 0 where
   pub above : pos 0 <ℤ W
@@ -61,11 +63,6 @@ rate-sum N s c W r q l h P R p e =
     ring (N ∷ s ∷ c ∷ W ∷ l ∷ h ∷ P ∷ R ∷ []) (search quotes depth 12) (search quotes depth 12) refl
     ∙ ap₂ (λ x y. c *ℤ P *ℤ x +ℤ (N *ℤ R -ℤ P *ℤ s) *ℤ y) p e
     ∙ ring (N ∷ s ∷ c ∷ r ∷ q ∷ P ∷ R ∷ []) (search quotes depth 12) (search quotes depth 12) refl
-
-diff-nonneg : (x y : ℤ) → x ≤ℤ y → pos 0 ≤ℤ (y -ℤ x)
-diff-nonneg x y h =
-    let ρ : List ℤ = x ∷ y ∷ [] in
-    le-goal ρ (search quotes depth 12) (search quotes depth 12) (omega (arith, le-given ρ (search quotes depth 12) (search quotes depth 12) h))
 
 both-nonneg : {x y : ℤ} → pos 0 ≤ℤ x → pos 0 ≤ℤ y → pos 0 ≤ℤ (x +ℤ y)
 both-nonneg {x} {y} h k = le-trans (le-of-eq refl) (+ℤ-le h k)
@@ -81,12 +78,12 @@ rate-lawful {N} {s} {c} {W} {r} {q} {l} {h} P R rate hN hc hP hτ hl least = ⊎
     upw hq =
         *ℤ-le-cancel (rate .above)
         (le-trans (le-of-eq (zero-times W))
-        (le-trans (*ℤ-nonneg hc (*ℤ-nonneg hN (diff-nonneg (R *ℤ q) (r *ℤ P) (least hq)))) (le-of-eq (sym (rate-sum N s c W r q l h P R (rate .loaded) (rate .changing))))))
+        (le-trans (*ℤ-nonneg hc (*ℤ-nonneg hN (sub-nonneg (least hq)))) (le-of-eq (sym (rate-sum N s c W r q l h P R (rate .loaded) (rate .changing))))))
 
     change : q ≤ℤ pos 0 → pos 0 ≤ℤ h
     change hq =
         *ℤ-le-cancel (rate .above)
-        (le-trans (le-of-eq (zero-times W)) (le-trans (*ℤ-nonneg hc (diff-nonneg q (pos 0) hq)) (le-of-eq (ring (c ∷ q ∷ []) (search quotes depth 12) (search quotes depth 12) refl ∙ sym (rate .changing)))))
+        (le-trans (le-of-eq (zero-times W)) (le-trans (*ℤ-nonneg hc (sub-nonneg hq)) (le-of-eq (ring (c ∷ q ∷ []) (search quotes depth 12) (search quotes depth 12) refl ∙ sym (rate .changing)))))
 
     down : q ≤ℤ pos 0 → pos 0 ≤ℤ (c *ℤ P *ℤ l +ℤ (N *ℤ R -ℤ P *ℤ s) *ℤ h)
     down hq =

@@ -1,11 +1,11 @@
--- The cases of the bench are right: one test computed over the whole list, and one theorem, that what passes the test is right.
+-- The cases of the bench are right: one test computed over the whole list, and one theorem,
+-- that what passes the test is right.
 use Prim.Native.Nat.{ℕ, zero, suc, _%_, _∣_, _<_}
 use mathlib.Core.Path.{_≡_, refl, ap, subst, subst⁻¹}
 use mathlib.Core.Logic.{_≢_, _⊎_, inl, inr, ⊎-elim}
 use mathlib.Core.Bool.{Bool, true, false, not, _&&_, _||_}
 use mathlib.Core.List.{List, [], _∷_, map, List·Memᴰ, List·Memᴰ·not-nil, List·Memᴰ·cases-cons}
 use native.Mathlib.Omega.{arith}
-use native.Mathlib.Decide.{decLt}
 use native.Mathlib.Nat.{mod-eq-zero-of-dvd, le-of-dvd}
 use lib.Dec.{T, T-not, eqb, ltb, eqb→eq, eqb-refl, ltb→lt}
 use lib.IntN.{ℤ, pos, natAbs}
@@ -14,6 +14,8 @@ use Rattle.exact.specs.declared.Fraction.{Fraction}
 use Rattle.exact.specs.Fraction.{LowestTerms}
 use Rattle.exact.specs.Total.{total}
 use Rattle.algebra.proofs.Whole.{le-antisym, lt-parts, parts-natAbs}
+use Rattle.algebra.proofs.Ring.{and-parts}
+use Rattle.algebra.proofs.Sum.{last-or-below}
 use Rattle.ground.specs.declared.Label.{Label}
 use Rattle.ground.specs.declared.GapNumber.{GapNumber}
 use Rattle.least_move.specs.Sheet.{Sheet, Kind, at-least, exactly, ignored, Proper, label, gapNumber}
@@ -37,19 +39,14 @@ granted p = record { passes = true; shows = λ _. p }
 abbrev denied : {P : Type 0} → Test P
 denied = record { passes = false; shows = λ h. absurd h }
 
--- Two tests that both pass. A chain `granted f on a on b` is the test of what f shows from the parts: the parts' statements come from f's
--- result, so that a test of a record tests what the record says.
-both-pass : (a b : Bool) → T (a && b) → T a × T b
-both-pass true true h = (tt, tt)
-both-pass true false h = absurd h
-both-pass false b h = absurd h
-
+-- A chain `granted f on a on b` is the test of what f shows from the parts:
+-- the parts' statements come from f's result, so that a test of a record tests what the record says.
 infixl 30 _on_
 abbrev _on_ : {P Q : Type 0} → Test (P → Q) → Test P → Test Q
 f on a =
     record {
       passes = f .passes && a .passes;
-      shows = λ h. f .shows (both-pass (f .passes) (a .passes) h .0) (a .shows (both-pass (f .passes) (a .passes) h .1));
+      shows = λ h. f .shows (and-parts (f .passes) (a .passes) h .0) (a .shows (and-parts (f .passes) (a .passes) h .1));
     }
 
 -- one of two
@@ -73,16 +70,9 @@ abbrev provided : {P Q : Type 0} → Test (¬ P) → Test Q → Test (P → Q)
 provided a b = granted (λ h t. ⊎-elim (λ n. absurd (n t)) (λ z. z) h) on (a or b)
 
 -- at every number below n, so at every label and at every gap
-split-last : (k n : ℕ) → k < suc n → (k ≡ n) ⊎ (k < n)
-split-last k n h = go (decLt k n)
-  where
-    go : Dec (k < n) → (k ≡ n) ⊎ (k < n)
-    go (yes l) = inr l
-    go (no l) = inl (omega arith)
-
 abbrev below : (n : ℕ) {P : ℕ → Type 0} → ((k : ℕ) → Test (P k)) → Test ((k : ℕ) → k < n → P k)
 below zero t = granted (λ k h. absurd (omega arith))
-below (suc n) {P} t = granted (λ last others k h. ⊎-elim (λ e. subst⁻¹ P e last) (λ l. others k l) (split-last k n h)) on t n on below n t
+below (suc n) {P} t = granted (λ last others k h. ⊎-elim (λ e. subst⁻¹ P e last) (λ l. others k l) (last-or-below k n h)) on t n on below n t
 
 abbrev labels : {n : ℕ} {P : Label → Type 0} → ((i : Label) → Test (P i)) → Test ((i : Label) → i .0 < n → P i)
 labels {n} t = granted (λ h i. h (i .0)) on below n (λ k. t (label k))

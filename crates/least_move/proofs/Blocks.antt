@@ -1,4 +1,5 @@
--- What an advance of the push needs beside a sheet's numbers: loads kept to one block, and the gap that is marked at the end.
+-- What an advance of the push needs beside a sheet's numbers:
+-- loads kept to one block, and the gap that is marked at the end.
 use mathlib.Core.Path.{_≡_, refl, sym, _∙_, ap, ap₂}
 use mathlib.Core.Logic.{_≢_}
 use mathlib.Core.Bool.{Bool, true, false, true≢false}
@@ -14,7 +15,6 @@ use Rattle.algebra.proofs.Sum.{sum-cong, sum-*}
 use Rattle.least_move.specs.States.{flow, OnlyOn, push, State}
 use Rattle.least_move.proofs.Flow.{flow-lin}
 use Rattle.least_move.proofs.Forest.{by-mark, pass-flow}
-use Rattle.least_move.proofs.Progress.{with-push}
 
 -- at label j alone, a set's indicator is that of j
 pub pick : (S : ℕ → Bool) (j i : ℕ) (x y : ℤ) → x ≡ ind (S j) *ℤ y → ind (eqb j i) *ℤ x ≡ ind (S i) *ℤ (ind (eqb j i) *ℤ y)
@@ -57,6 +57,10 @@ restrict-flow m u v F Λ S off inside i =
         sum-cong m (λ e. ind (eqb (w e) i) *ℤ (ind (S (u e)) *ℤ Λ e)) (λ e. ind (S i) *ℤ (ind (eqb (w e) i) *ℤ Λ e))
         (λ e h. pick S (w e) i (ind (S (u e)) *ℤ Λ e) (Λ e) (same e h))
         ∙ sum-* m (ind (S i)) (λ e. ind (eqb (w e) i) *ℤ Λ e)
+
+-- loads with t more on gap c
+abbrev pub with-push : (c : ℕ) (t : ℤ) (Λ : ℕ → ℤ) → ℕ → ℤ
+with-push c t Λ e = pos 1 *ℤ Λ e +ℤ pos 1 *ℤ (ind (eqb c e) *ℤ t)
 
 -- gap c, tight at last, is marked and carries t, which brings what the push has brought
 pub state-marked : {n m : ℕ} {u v : ℕ → ℕ} {w D G : ℕ → ℤ} {F : ℕ → Bool} {a b : ℕ} {s : ℤ} {X Λ : ℕ → ℤ} (F' : ℕ → Bool) (c : ℕ) (t : ℤ) → c < m → F' c ≡ true → ((e : ℕ) → e < m → e ≢ c → F' e ≡ F e) → X (v c) ≡ X (u c) +ℤ G c → ((i : ℕ) → i < n → ind (eqb (v c) i) *ℤ t -ℤ ind (eqb (u c) i) *ℤ t ≡ push a b s i) → State n m u v w D G F a b s X Λ → State n m u v w D G F' 0 0 (pos 0) X (with-push c t Λ)

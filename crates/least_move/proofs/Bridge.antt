@@ -1,4 +1,5 @@
--- From fractions to whole numbers at a common scale N above zero: what specs/ says of a sheet, its placement and its multipliers is what Scaled says.
+-- From fractions to whole numbers at a common scale N above zero:
+-- what specs/ says of a sheet, its placement and its multipliers is what Scaled says.
 use mathlib.Core.Path.{_≡_, refl, sym, _∙_, ap, ap₂, subst}
 use mathlib.Core.Logic.{_↔_, inl, inr, ⊎-elim}
 use mathlib.Core.Bool.{Bool, true, false, cond}
@@ -22,8 +23,8 @@ use Rattle.least_move.specs.Sheet.{Sheet, Gap, Kind, at-least, exactly, 
 use Rattle.least_move.specs.Placement.{Placement, Asks, reach, Holds, Tight, Feasible, move, cost}
 use Rattle.least_move.specs.Multipliers.{Multipliers, Lawful, counted, asRight, asLeft, Conditions}
 use Rattle.least_move.specs.Moved.{SameButWants}
-use Rattle.least_move.specs.States.{flow}
-use Rattle.least_move.proofs.Scaled.{slack, Meets-at, Lawful-at, ScaledConditions, costZ}
+use Rattle.least_move.specs.States.{flow, costZ}
+use Rattle.least_move.proofs.Scaled.{slack, Meets-at, Lawful-at, ScaledConditions}
 
 -- ---- a sheet as plain functions of numbers
 

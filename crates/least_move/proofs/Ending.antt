@@ -1,5 +1,7 @@
--- Why the outer steps end: every place is a whole number at one scale K, so that the cost at that scale is a whole number too.
--- It grows with each outer step and stays below a limit. K is far too large to compute, and nothing computes it: it stays shut.
+-- Why the outer steps end: every place is a whole number at one scale K,
+-- so that the cost at that scale is a whole number too.
+-- It grows with each outer step and stays below a limit.
+-- K is far too large to compute, and nothing computes it: it stays shut.
 use mathlib.Core.Path.{_≡_, refl, sym, _∙_, ap}
 use mathlib.Core.Bool.{Bool}
 use mathlib.Core.List.{[], _∷_}
@@ -7,12 +9,13 @@ use Prim.Native.Nat.{ℕ, zero, suc, _+_, _*_, _-_, _/_, _≤_, _<_}
 use native.Mathlib.Omega.{arith}
 use native.Mathlib.Nat.{mul-comm, mul-assoc, mul-le-mul-left, mul-le-mul-right, mul-div-cancel, le-trans}
 use native.Mathlib.Decide.{decLe}
-use lib.IntN.{ℤ, pos, negsuc, negℤ, natAbs, _-ℤ_, _*ℤ_, *ℤ-comm, pos-*ℤ-pos}
+use lib.IntN.{ℤ, pos, negℤ, natAbs, _-ℤ_, _*ℤ_, *ℤ-comm, pos-*ℤ-pos}
 use lib.Signed.{_≤ℤ_, _<ℤ_}
-use Rattle.algebra.proofs.Whole.{pp-neg, nn-neg, parts-natAbs, le-parts, lt-parts, parts-lt, no-nn, le-of-lt, *ℤ-above, *ℤ-lt, *ℤ-lt-cancel, *ℤ-cancel}
+use Rattle.algebra.proofs.Whole.{parts-natAbs, le-parts, lt-parts, parts-lt, no-nn, le-of-lt, *ℤ-above, *ℤ-lt, *ℤ-lt-cancel, *ℤ-cancel}
 use Rattle.algebra.proofs.Ring.{ring, quotes}
-use Rattle.algebra.proofs.Sum.{natAbs-+}
-use Rattle.least_move.proofs.Progress.{natAbs-*, cost-nonneg, cost-bound}
+use Rattle.algebra.proofs.Quotient.{pos-of-above, natAbs-neg, natAbs-above, natAbs-*, natAbs-+}
+use Rattle.ground.specs.Limits.{labelsMost, coreWantedMost, coreWeightMost, blockWeightMost, offsetMost}
+use Rattle.least_move.proofs.Progress.{cost-nonneg, cost-bound}
 use Rattle.least_move.specs.States.{Numbers, costAt, PlacedAt, Reached, fact, K, atK, costK, far, limit, measure}
 use Rattle.least_move.proofs.Sides.{scaled-cost}
 
@@ -36,44 +39,37 @@ fact-divides (suc n) w h l = go (decLe w n) (fact-divides n w h)
 
 pub K-above : 0 < K
 unfolding K
-K-above = fact-above 172800
+K-above = fact-above blockWeightMost
 
-pub K-divides : (w : ℕ) → 0 < w → w ≤ 172800 → (q : ℕ) × (q * w ≡ K)
+pub K-divides : (w : ℕ) → 0 < w → w ≤ blockWeightMost → (q : ℕ) × (q * w ≡ K)
 unfolding K
-K-divides = fact-divides 172800
+K-divides = fact-divides blockWeightMost
 
 -- the quotient
-K-over : (w : ℕ) → 0 < w → w ≤ 172800 → K / w * w ≡ K
+K-over : (w : ℕ) → 0 < w → w ≤ blockWeightMost → K / w * w ≡ K
 K-over w h l =
     let r : (q : ℕ) × (q * w ≡ K) = K-divides w h l in
     let e : K / w ≡ r .0 = ap (λ (x : ℕ). x / w) (sym (r .1)) ∙ mul-div-cancel (r .0) h in
     ap (λ (x : ℕ). x * w) e ∙ r .1
 
--- denominators from 1 to 172,800
+-- denominators from 1 to the most that a block weighs
 pub record DensIn (n : ℕ) (den : ℕ → ℤ) : Type 0 where
   pub above : (i : ℕ) → i < n → pos 0 <ℤ den i
-  pub most : (i : ℕ) → i < n → den i ≤ℤ pos 172800
+  pub most : (i : ℕ) → i < n → den i ≤ℤ pos blockWeightMost
 
-den-pos : (den : ℤ) → pos 0 <ℤ den → den ≡ pos (natAbs den)
-den-pos (pos d) h = refl
-den-pos (negsuc d) h = absurd (h .lt)
-
-den-above : (den : ℤ) → pos 0 <ℤ den → 0 < natAbs den
-den-above den h = omega (arith, lt-parts h, parts-natAbs den)
-
-den-most : (den : ℤ) → pos 0 <ℤ den → den ≤ℤ pos 172800 → natAbs den ≤ 172800
+den-most : (den : ℤ) → pos 0 <ℤ den → den ≤ℤ pos blockWeightMost → natAbs den ≤ blockWeightMost
 den-most den h l = omega (arith, lt-parts h, le-parts l, parts-natAbs den, no-nn (le-of-lt h))
 
 turned : (a b c : ℤ) → a *ℤ b *ℤ c ≡ b *ℤ c *ℤ a
 turned a b c = ring (a ∷ b ∷ c ∷ []) (search quotes depth 12) (search quotes depth 12) refl
 
-pub atK-says : (num den : ℤ) → pos 0 <ℤ den → den ≤ℤ pos 172800 → atK num den *ℤ den ≡ pos K *ℤ num
+pub atK-says : (num den : ℤ) → pos 0 <ℤ den → den ≤ℤ pos blockWeightMost → atK num den *ℤ den ≡ pos K *ℤ num
 unfolding atK
 atK-says num den h l =
     let d : ℕ = natAbs den in
-    ap (λ x. num *ℤ pos (K / d) *ℤ x) (den-pos den h)
+    ap (λ x. num *ℤ pos (K / d) *ℤ x) (sym (pos-of-above h))
     ∙ turned num (pos (K / d)) (pos d)
-    ∙ ap (λ x. x *ℤ num) (pos-*ℤ-pos (K / d) d ∙ ap pos (K-over d (den-above den h) (den-most den h l)))
+    ∙ ap (λ x. x *ℤ num) (pos-*ℤ-pos (K / d) d ∙ ap pos (K-over d (natAbs-above h) (den-most den h l)))
 
 -- two numbers of one fraction, at two scales
 same-place : (N x k y num den : ℤ) → pos 0 <ℤ den → x *ℤ den ≡ N *ℤ num → y *ℤ den ≡ k *ℤ num → k *ℤ x ≡ N *ℤ y
@@ -107,31 +103,31 @@ costK-grows z F num den num' den' dens dens' r placed =
 
 -- a sheet within the bounds of document 01, and places that its gaps can lead to
 pub record Small (z : Numbers) : Type 0 where
-  pub labels : z .n ≤ 48
+  pub labels : z .n ≤ labelsMost
   pub heavy : (i : ℕ) → i < z .n → pos 0 ≤ℤ z .w i
-  pub light : (i : ℕ) → i < z .n → natAbs (z .w i) ≤ 3600
-  pub wants : (i : ℕ) → i < z .n → natAbs (z .d i) ≤ 600000
+  pub light : (i : ℕ) → i < z .n → natAbs (z .w i) ≤ coreWeightMost
+  pub wants : (i : ℕ) → i < z .n → natAbs (z .d i) ≤ coreWantedMost
 
 pub record PlacesIn (n : ℕ) (num den : ℕ → ℤ) : Type 0 where
   pub dens : DensIn n den
-  pub near : (i : ℕ) → i < n → natAbs (num i) ≤ 1540000 * natAbs (den i)
+  pub near : (i : ℕ) → i < n → natAbs (num i) ≤ (coreWantedMost + offsetMost) * natAbs (den i)
 
 natAbs-- : (a b : ℤ) → natAbs (a -ℤ b) ≤ natAbs a + natAbs b
-natAbs-- a b = omega (arith, natAbs-+ a (negℤ b), parts-natAbs b, parts-natAbs (negℤ b), pp-neg b, nn-neg b)
+natAbs-- a b = omega (arith, natAbs-+ a (negℤ b), natAbs-neg b)
 
-atK-near : (num den : ℤ) → pos 0 <ℤ den → den ≤ℤ pos 172800 → natAbs num ≤ 1540000 * natAbs den → natAbs (atK num den) ≤ 1540000 * K
+atK-near : (num den : ℤ) → pos 0 <ℤ den → den ≤ℤ pos blockWeightMost → natAbs num ≤ (coreWantedMost + offsetMost) * natAbs den → natAbs (atK num den) ≤ (coreWantedMost + offsetMost) * K
 unfolding atK
 atK-near num den h l near =
     let d : ℕ = natAbs den in
     let size : natAbs (num *ℤ pos (K / d)) ≡ natAbs num * (K / d) = natAbs-* num (pos (K / d)) in
-    let whole : K / d * d ≡ K = K-over d (den-above den h) (den-most den h l) in
+    let whole : K / d * d ≡ K = K-over d (natAbs-above h) (den-most den h l) in
     omega (arith, size, mul-le-mul-right (K / d) near, whole)
 
-moved-near : (num den d : ℤ) → pos 0 <ℤ den → den ≤ℤ pos 172800 → natAbs num ≤ 1540000 * natAbs den → natAbs d ≤ 600000 → natAbs (atK num den -ℤ pos K *ℤ d) ≤ far
+moved-near : (num den d : ℤ) → pos 0 <ℤ den → den ≤ℤ pos blockWeightMost → natAbs num ≤ (coreWantedMost + offsetMost) * natAbs den → natAbs d ≤ coreWantedMost → natAbs (atK num den -ℤ pos K *ℤ d) ≤ far
 unfolding far
 moved-near num den d h l near want =
     let size : natAbs (pos K *ℤ d) ≡ K * natAbs d = natAbs-* (pos K) d in
-    let reach : K * natAbs d ≤ 600000 * K = omega (arith, mul-le-mul-left K want) in
+    let reach : K * natAbs d ≤ coreWantedMost * K = omega (arith, mul-le-mul-left K want) in
     omega (arith, natAbs-- (atK num den) (pos K *ℤ d), atK-near num den h l near)
 
 pub costK-nonneg : (z : Numbers) (num den : ℕ → ℤ) → Small z → pos 0 ≤ℤ costK z num den
@@ -142,9 +138,9 @@ pub costK-bounded : (z : Numbers) (num den : ℕ → ℤ) → Small z → Places
 unfolding costK limit
 costK-bounded z num den small places =
     le-trans
-    (cost-bound (z .n) (z .w) (λ i. pos K *ℤ z .d i) (λ i. atK (num i) (den i)) 3600 far (small .light)
+    (cost-bound (z .n) (z .w) (λ i. pos K *ℤ z .d i) (λ i. atK (num i) (den i)) coreWeightMost far (small .light)
     (λ i l. moved-near (num i) (den i) (z .d i) (places .dens .above i l) (places .dens .most i l) (places .near i l) (small .wants i l)))
-    (mul-le-mul-right (3600 * (far * far)) (small .labels))
+    (mul-le-mul-right (coreWeightMost * (far * far)) (small .labels))
 
 -- ---- the measure of the outer loop
 

@@ -1,4 +1,5 @@
--- Summation by parts over the gaps of a sheet, in plain whole numbers: nearly every law of the least move is this one lemma.
+-- Summation by parts over the gaps of a sheet, in plain whole numbers:
+-- nearly every law of the least move is this one lemma.
 -- Gap e goes from label u e to label v e and carries Λ e.
 use mathlib.Core.Path.{_≡_, refl, sym, _∙_, ap, ap₂}
 use mathlib.Core.Logic.{_⊎_, inl, inr}

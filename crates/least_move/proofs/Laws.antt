@@ -1,5 +1,6 @@
--- The laws of the least move, over the definitions of specs/: the conditions make it least and unique, a ring excludes every placement,
--- and what moved wants do to places. Each is brought to a common scale (Bridge) and shown in whole numbers (Scaled).
+-- The laws of the least move, over the definitions of specs/:
+-- the conditions make it least and unique, a ring excludes every placement, and what moved wants do to places.
+-- Each is brought to a common scale (Bridge) and shown in whole numbers (Scaled).
 use mathlib.Core.Path.{_≡_, refl, sym, ap, subst}
 use mathlib.Core.Bool.{Bool, true, false, cond}
 use mathlib.Core.List.{List, [], _∷_}
@@ -187,7 +188,8 @@ module _ (s t : Sheet) (p q : Placement) (m k : Multipliers) (proper : Proper s)
       ≼-scale (z .above) (c .feasible .fractions i h) (d .feasible .fractions i (in-t i h)) (z .places (i .0) h) (z .places′ (i .0) (in-t i h)) .1
       (moved-down (first-at z) (second-at z) (λ j l. *ℤ-le (le-of-lt (z .above)) (up (label j) l)) (i .0) h)
 
-  -- the sum of weight times squared change of place is at most the sum of weight times change of place times change of want
+  -- the sum of weight times squared change of place is at most the sum of weight times change of place
+  -- times change of want
   pub weighted-change : total (s .labels) (λ i. s .weight (label i) ⊛ square (q (label i) ⊖ p (label i))) ≼ total (s .labels) (λ i. s .weight (label i) ⊛ ((t .wanted (label i) -ℤ s .wanted (label i)) ⊛ (q (label i) ⊖ p (label i))))
   weighted-change =
       ≼-scale (*ℤ-above (z .above) (z .above))

@@ -10,3 +10,4 @@ pub mod Blocks
 pub mod Sides
 pub mod Unscaled
 pub mod Ending
+pub mod WrongConditions

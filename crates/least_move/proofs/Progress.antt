@@ -1,8 +1,8 @@
--- Progress of one outer step (the dual active set over forests): a gap c from label a to label b pushes with force s, the marked gaps are tight,
--- and every label is balanced. Two such states with the same marks differ in cost by what the push has done.
+-- Progress of one outer step (the dual active set over forests):
+-- a gap c from label a to label b pushes with force s, the marked gaps are tight, and every label is balanced.
+-- Two such states with the same marks differ in cost by what the push has done.
 use mathlib.Core.Path.{_≡_, refl, sym, _∙_, ap, ap₂}
-use mathlib.Core.Logic.{_≢_}
-use mathlib.Core.Bool.{Bool, true, true≢false}
+use mathlib.Core.Bool.{Bool, true}
 use mathlib.Core.List.{List, [], _∷_}
 use Prim.Native.Nat.{ℕ, zero, suc, _*_, _≤_, _<_}
 use native.Mathlib.Omega.{arith}
@@ -10,14 +10,14 @@ use native.Mathlib.Nat.{mul-le-mul}
 use lib.IntN.{ℤ, pos, negsuc, natAbs, _+ℤ_, _-ℤ_, _*ℤ_, +ℤ-idl, *ℤ-zero, zero-*ℤ}
 use lib.Signed.{_≤ℤ_, _<ℤ_}
 use lib.Dec.{eqb}
-use borrow.Author.Tests.{eqb-true, eqb-false}
 use Rattle.algebra.specs.Sum.{sum, ind}
-use Rattle.algebra.proofs.Whole.{pp-*, nn-*, parts-+, parts-natAbs, le-parts, parts-le, lt-parts, parts-lt, le-trans, le-of-eq, le-of-lt, +ℤ-le, *ℤ-le-cancel, *ℤ-+ℤ, *ℤ-nonneg, *ℤ-above, *ℤ-cancel, square-nonneg}
-use Rattle.algebra.proofs.Ring.{ring, quotes, le-given, lt-given, eq-given, le-goal, lt-goal, eq-goal}
+use Rattle.algebra.proofs.Whole.{parts-+, le-parts, parts-le, lt-parts, parts-lt, le-trans, le-of-eq, le-of-lt, +ℤ-le, *ℤ-le-cancel, *ℤ-+ℤ, *ℤ-nonneg, *ℤ-above, *ℤ-cancel, square-nonneg, sub-nonneg, sub-above}
+use Rattle.algebra.proofs.Quotient.{natAbs-*}
+use Rattle.algebra.proofs.Ring.{ring, quotes, le-given, lt-given, eq-given, le-goal, lt-goal}
 use Rattle.algebra.proofs.Sum.{sum-cong, sum-+, sum--, sum-*, sum-zero, sum-nonneg, sum-nonneg-zero, sum-bound}
 use Rattle.least_move.specs.States.{flow, OnlyOn, push, State, costZ, viol, dual}
-use Rattle.least_move.proofs.Flow.{at-label, by-parts, flow-lin}
-use Rattle.least_move.proofs.Forest.{apart-zero, by-mark, no-load, pass-flow}
+use Rattle.least_move.proofs.Flow.{at-label, by-parts}
+use Rattle.least_move.proofs.Forest.{apart-zero, by-mark, no-load}
 
 -- a tight gap keeps its length
 kept : (l x x' y y' g : ℤ) → y ≡ x +ℤ g → y' ≡ x' +ℤ g → l *ℤ (y' -ℤ y -ℤ (x' -ℤ x)) ≡ pos 0
@@ -63,16 +63,6 @@ grown c c' s s' x x' e =
     ∙ ring (s ∷ s' ∷ x ∷ x' ∷ []) (search quotes depth 12) (search quotes depth 12) refl
 
 -- orders of the two states from that of the forces
-gap-nonneg : {x y : ℤ} → x ≤ℤ y → pos 0 ≤ℤ (y -ℤ x)
-gap-nonneg {x} {y} h =
-    let ρ : List ℤ = x ∷ y ∷ [] in
-    le-goal ρ (search quotes depth 12) (search quotes depth 12) (omega (arith, le-given ρ (search quotes depth 12) (search quotes depth 12) h))
-
-pub gap-above : {x y : ℤ} → x <ℤ y → pos 0 <ℤ (y -ℤ x)
-gap-above {x} {y} h =
-    let ρ : List ℤ = x ∷ y ∷ [] in
-    lt-goal ρ (search quotes depth 12) (search quotes depth 12) (omega (arith, lt-given ρ (search quotes depth 12) (search quotes depth 12) h))
-
 +ℤ-above : {x y : ℤ} → pos 0 <ℤ x → pos 0 ≤ℤ y → pos 0 <ℤ (x +ℤ y)
 +ℤ-above {x} {y} h k = parts-lt (omega (arith, lt-parts h, le-parts k, parts-+ x y))
 
@@ -142,17 +132,17 @@ module _ {n m : ℕ} {u v : ℕ → ℕ} {w D G : ℕ → ℤ} {F : ℕ → Bool
 
   -- while gap c does not hold, a larger force makes it larger
   pub progress-grows : (g : ℤ) → s ≤ℤ s' → pos 0 ≤ℤ viol a b g X → pos 0 ≤ℤ viol a b g X' → dual n w D a b g s X ≤ℤ dual n w D a b g s' X'
-  progress-grows g h k k' = gap-le (dual n w D a b g s X) (dual n w D a b g s' X') _ (progress-Q g) (*ℤ-nonneg (gap-nonneg h) (+ℤ-le k k'))
+  progress-grows g h k k' = gap-le (dual n w D a b g s X) (dual n w D a b g s' X') _ (progress-Q g) (*ℤ-nonneg (sub-nonneg h) (+ℤ-le k k'))
 
   pub progress-grows-lt : (g : ℤ) → s <ℤ s' → pos 0 <ℤ viol a b g X → pos 0 ≤ℤ viol a b g X' → dual n w D a b g s X <ℤ dual n w D a b g s' X'
-  progress-grows-lt g h k k' = gap-lt (dual n w D a b g s X) (dual n w D a b g s' X') _ (progress-Q g) (*ℤ-above (gap-above h) (+ℤ-above k k'))
+  progress-grows-lt g h k k' = gap-lt (dual n w D a b g s X) (dual n w D a b g s' X') _ (progress-Q g) (*ℤ-above (sub-above h) (+ℤ-above k k'))
 
   -- and the violation never grows with the force
   pub viol-falls : (g : ℤ) → ((i : ℕ) → i < n → pos 0 ≤ℤ w i) → s <ℤ s' → viol a b g X' ≤ℤ viol a b g X
   viol-falls g heavy h =
       let d : ℤ = sum n (λ i. w i *ℤ ((X' i -ℤ X i) *ℤ (X' i -ℤ X i))) in
       let k : pos 0 ≤ℤ d = sum-nonneg n (λ i. w i *ℤ ((X' i -ℤ X i) *ℤ (X' i -ℤ X i))) (λ i l. *ℤ-nonneg (heavy i l) (square-nonneg (X' i -ℤ X i))) in
-      gap-below (viol a b g X) (viol a b g X') (s' -ℤ s) d (gap-above h) k (places-apart g)
+      gap-below (viol a b g X) (viol a b g X') (s' -ℤ s) d (sub-above h) k (places-apart g)
 
   -- the marks and the force say where the labels stand
   pub places-unique : ((i : ℕ) → i < n → pos 0 <ℤ w i) → s' ≡ s → (i : ℕ) → i < n → X i ≡ X' i
@@ -165,12 +155,6 @@ module _ {n m : ℕ} {u v : ℕ → ℕ} {w D G : ℕ → ℤ} {F : ℕ → Bool
       (sum-nonneg-zero n f (λ k h. *ℤ-nonneg (le-of-lt (heavy k h)) (square-nonneg (X' k -ℤ X k))) (le-of-eq none) i l ∙ sym (*ℤ-zero (w i)))))
 
 -- ---- the size of the cost
-
-pub natAbs-* : (x y : ℤ) → natAbs (x *ℤ y) ≡ natAbs x * natAbs y
-natAbs-* (pos x) (pos y) = refl
-natAbs-* (pos x) (negsuc y) = omega (arith, parts-natAbs (pos x *ℤ negsuc y), pp-* (pos x) (negsuc y), nn-* (pos x) (negsuc y))
-natAbs-* (negsuc x) (pos y) = omega (arith, parts-natAbs (negsuc x *ℤ pos y), pp-* (negsuc x) (pos y), nn-* (negsuc x) (pos y))
-natAbs-* (negsuc x) (negsuc y) = refl
 
 pub cost-nonneg : (n : ℕ) (w D X : ℕ → ℤ) → ((i : ℕ) → i < n → pos 0 ≤ℤ w i) → pos 0 ≤ℤ costZ n w D X
 cost-nonneg n w D X heavy =
@@ -199,35 +183,3 @@ state-drop F' fewer off st = record { off = off; tight = λ e h t. st .tight e h
 pub state-unpushed : {n m : ℕ} {u v : ℕ → ℕ} {w D G : ℕ → ℤ} {F : ℕ → Bool} {a b : ℕ} {X Λ : ℕ → ℤ} (a' b' : ℕ) → State n m u v w D G F a b (pos 0) X Λ → State n m u v w D G F a' b' (pos 0) X Λ
 state-unpushed {n} {m} {u} {v} {a = a} {b = b} {Λ = Λ} a' b' st =
     record { off = st .off; tight = st .tight; balance = λ i h. st .balance i h ∙ ap (λ x. flow m u v Λ i +ℤ x) (zero-*ℤ (ind (eqb b i) -ℤ ind (eqb a i)) ∙ sym (zero-*ℤ (ind (eqb b' i) -ℤ ind (eqb a' i)))) }
-
-met : (x g y : ℤ) → x +ℤ g -ℤ y ≡ pos 0 → x +ℤ g ≡ y
-met x g y e =
-    let ρ : List ℤ = x ∷ g ∷ y ∷ [] in
-    eq-goal ρ (search quotes depth 12) (search quotes depth 12) (omega (arith, eq-given ρ (search quotes depth 12) (search quotes depth 12) e))
-
--- gap c, tight at last, is marked and carries the push itself
-abbrev pub with-push : (c : ℕ) (s : ℤ) (Λ : ℕ → ℤ) → ℕ → ℤ
-with-push c s Λ e = pos 1 *ℤ Λ e +ℤ pos 1 *ℤ (ind (eqb c e) *ℤ s)
-
-pub state-mark : {n m : ℕ} {u v : ℕ → ℕ} {w D G : ℕ → ℤ} {F : ℕ → Bool} {s : ℤ} {X Λ : ℕ → ℤ} (F' : ℕ → Bool) (c : ℕ) → c < m → F' c ≡ true → ((e : ℕ) → e < m → e ≢ c → F' e ≡ F e) → viol (u c) (v c) (G c) X ≡ pos 0 → State n m u v w D G F (u c) (v c) s X Λ → State n m u v w D G F' (u c) (v c) (pos 0) X (with-push c s Λ)
-state-mark {n} {m} {u} {v} {w} {D} {G} {F} {s} {X} {Λ} F' c l is-marked same holds st = record { off = off'; tight = tight'; balance = balance' }
-  where
-    off' : OnlyOn m F' (with-push c s Λ)
-    off' e h f =
-        by-mark (eqb c e)
-        (λ t. absurd (true≢false (sym is-marked ∙ ap F' (eqb-true c e t) ∙ f)))
-        (λ t. ap₂ (λ (x : ℤ) (y : Bool). pos 1 *ℤ x +ℤ pos 1 *ℤ (ind y *ℤ s)) (st .off e h (sym (same e h (λ q. eqb-false c e t (sym q))) ∙ f)) t
-        ∙ ring (s ∷ []) (search quotes depth 12) (search quotes depth 12) refl)
-
-    tight' : (e : ℕ) → e < m → F' e ≡ true → X (v e) ≡ X (u e) +ℤ G e
-    tight' e h t =
-        by-mark (eqb e c)
-        (λ q. rw (eqb-true e c q) (sym (met (X (u c)) (G c) (X (v c)) holds)))
-        (λ q. st .tight e h (sym (same e h (eqb-false e c q)) ∙ t))
-
-    balance' : (i : ℕ) → i < n → pos 2 *ℤ (w i *ℤ (X i -ℤ D i)) ≡ flow m u v (with-push c s Λ) i +ℤ push (u c) (v c) (pos 0) i
-    balance' i h =
-        st .balance i h
-        ∙ ring (flow m u v Λ i ∷ ind (eqb (v c) i) ∷ ind (eqb (u c) i) ∷ s ∷ []) (search quotes depth 12) (search quotes depth 12) refl
-        ∙ ap (λ x. pos 1 *ℤ flow m u v Λ i +ℤ pos 1 *ℤ x +ℤ push (u c) (v c) (pos 0) i) (sym (pass-flow m u v c l s i))
-        ∙ ap (λ x. x +ℤ push (u c) (v c) (pos 0) i) (sym (flow-lin m u v (pos 1) (pos 1) Λ (λ e. ind (eqb c e) *ℤ s) i))

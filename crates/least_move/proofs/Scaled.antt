@@ -1,5 +1,7 @@
--- The theory of the least move in whole numbers, at a scale: places X, wants D, multipliers Λ and distances G are all multiplied by one number above zero.
--- Gap e goes from label u e to label v e. All rests on summation by parts (Flow) and on `pull`, what one gap contributes.
+-- The theory of the least move in whole numbers, at a scale:
+-- places X, wants D, multipliers Λ and distances G are all multiplied by one number above zero.
+-- Gap e goes from label u e to label v e. All rests on summation by parts (Flow) and on `pull`,
+-- what one gap contributes.
 use mathlib.Core.Path.{_≡_, refl, sym, _∙_, ap, ap₂}
 use mathlib.Core.Logic.{_⊎_, inl, inr, ⊎-elim}
 use mathlib.Core.List.{List, [], _∷_}
@@ -8,11 +10,11 @@ use native.Mathlib.Omega.{arith}
 use lib.IntN.{ℤ, pos, _+ℤ_, _-ℤ_, _*ℤ_}
 use lib.Signed.{_≤ℤ_, _<ℤ_}
 use Rattle.algebra.specs.Sum.{sum}
-use Rattle.algebra.proofs.Whole.{le-trans, le-antisym, le-of-eq, le-of-lt, lt-of-le-of-lt, not-le-of-lt, le-or-lt, *ℤ-nonneg, *ℤ-above, square-nonneg}
-use Rattle.algebra.proofs.Ring.{ring, quotes, le-given, lt-given, eq-given, le-goal, lt-goal, eq-goal, le-by}
+use Rattle.algebra.proofs.Whole.{le-trans, le-antisym, le-of-eq, le-of-lt, lt-of-le-of-lt, not-le-of-lt, le-or-lt, *ℤ-nonneg, *ℤ-above, square-nonneg, sub-nonneg, sub-above}
+use Rattle.algebra.proofs.Ring.{ring, quotes, le-given, eq-given, le-goal, eq-goal, le-by}
 use Rattle.algebra.proofs.Sum.{sum-cong, sum-+, sum--, sum-*, sum-zero, sum-le, sum-nonneg, sum-nonneg-zero}
 use Rattle.least_move.specs.Sheet.{Kind, at-least, exactly, ignored}
-use Rattle.least_move.specs.States.{flow}
+use Rattle.least_move.specs.States.{flow, costZ}
 use Rattle.least_move.proofs.Flow.{by-parts}
 
 -- ---- the conditions at a scale
@@ -52,10 +54,6 @@ pub record ScaledConditions (n m : ℕ) (u v : ℕ → ℕ) (w G : ℕ → ℤ) 
   pub lawful : (e : ℕ) → e < m → Lawful-at (kind e) (Λ e) (slack u v G X e)
   pub balance : (i : ℕ) → i < n → pos 2 *ℤ (w i *ℤ (X i -ℤ D i)) ≡ flow m u v Λ i
 
--- the cost at the square of the scale
-abbrev pub costZ : (n : ℕ) (w D X : ℕ → ℤ) → ℤ
-costZ n w D X = sum n (λ i. w i *ℤ ((X i -ℤ D i) *ℤ (X i -ℤ D i)))
-
 -- the weighted squares between two placements
 abbrev pub apart : (n : ℕ) (w X Y : ℕ → ℤ) → ℤ
 apart n w X Y = sum n (λ i. w i *ℤ ((Y i -ℤ X i) *ℤ (Y i -ℤ X i)))
@@ -68,11 +66,6 @@ pulls m u v Λ X Y = sum m (λ e. Λ e *ℤ ((Y (v e) -ℤ X (v e)) -ℤ (Y (u e
 
 zero-times : {l : ℤ} (x : ℤ) → l ≡ pos 0 → pos 0 ≤ℤ (l *ℤ x)
 zero-times {l} x e = le-of-eq (sym (ap (λ t. t *ℤ x) e ∙ ring (x ∷ []) (search quotes depth 12) (search quotes depth 12) refl))
-
-no-less : {a b : ℤ} → a ≤ℤ b → pos 0 ≤ℤ (b -ℤ a)
-no-less {a} {b} h =
-    let ρ : List ℤ = a ∷ b ∷ [] in
-    le-goal ρ (search quotes depth 12) (search quotes depth 12) (omega (arith, le-given ρ (search quotes depth 12) (search quotes depth 12) h))
 
 -- slack that meets, against slack that is none
 met-above : (s t c d : ℤ) → s ≡ pos 0 → pos 0 ≤ℤ t → t -ℤ s ≡ c -ℤ d → d ≤ℤ c
@@ -97,11 +90,11 @@ times-same l a b e = le-of-eq (sym (ap (λ x. l *ℤ (x -ℤ b)) e ∙ ring (l �
 abbrev pub NeverFalls : (ℤ → ℤ) → Type 0
 NeverFalls φ = (a b : ℤ) → a ≤ℤ b → φ a ≤ℤ φ b
 
--- A gap with a multiplier l and slack s, against a placement that meets it with slack t: the gap pulls the way that t is above s,
--- seen through any φ that never falls.
+-- A gap with a multiplier l and slack s, against a placement that meets it with slack t:
+-- the gap pulls the way that t is above s, seen through any φ that never falls.
 pub pull : (φ : ℤ → ℤ) → NeverFalls φ → (k : Kind) (l s t c d : ℤ) → Lawful-at k l s → Meets-at k t → t -ℤ s ≡ c -ℤ d → pos 0 ≤ℤ (l *ℤ (φ c -ℤ φ d))
 pull φ mono at-least l s t c d h k e =
-    ⊎-elim (zero-times (φ c -ℤ φ d)) (λ (z : s ≡ pos 0). *ℤ-nonneg (h .carries) (no-less (mono d c (met-above s t c d z k e)))) (h .one)
+    ⊎-elim (zero-times (φ c -ℤ φ d)) (λ (z : s ≡ pos 0). *ℤ-nonneg (h .carries) (sub-nonneg (mono d c (met-above s t c d z k e)))) (h .one)
 pull φ mono exactly l s t c d h k e = times-same l (φ c) (φ d) (ap φ (both-none s t c d h k e))
 pull φ mono ignored l s t c d h k e = zero-times (φ c -ℤ φ d) h
 
@@ -111,17 +104,12 @@ pull φ mono ignored l s t c d h k e = zero-times (φ c -ℤ φ d) h
 not-zero : {a : ℤ} → pos 0 <ℤ a → a ≡ pos 0 → ⊥
 not-zero h e = not-le-of-lt h (le-of-eq e)
 
-gap-above : {a b : ℤ} → a <ℤ b → pos 0 <ℤ (b -ℤ a)
-gap-above {a} {b} h =
-    let ρ : List ℤ = a ∷ b ∷ [] in
-    lt-goal ρ (search quotes depth 12) (search quotes depth 12) (omega (arith, lt-given ρ (search quotes depth 12) (search quotes depth 12) h))
-
 -- numbers whose weighted square difference is zero are the same
 square-none : (a y x : ℤ) → pos 0 <ℤ a → a *ℤ ((y -ℤ x) *ℤ (y -ℤ x)) ≡ pos 0 → y ≡ x
 square-none a y x h e =
     le-antisym
-    (⊎-elim (λ (k : y ≤ℤ x). k) (λ (k : x <ℤ y). absurd (not-zero (*ℤ-above h (*ℤ-above (gap-above k) (gap-above k))) e)) (le-or-lt y x))
-    (⊎-elim (λ (k : x ≤ℤ y). k) (λ (k : y <ℤ x). absurd (not-zero (*ℤ-above h (*ℤ-above (gap-above k) (gap-above k))) (turned ∙ e))) (le-or-lt x y))
+    (⊎-elim (λ (k : y ≤ℤ x). k) (λ (k : x <ℤ y). absurd (not-zero (*ℤ-above h (*ℤ-above (sub-above k) (sub-above k))) e)) (le-or-lt y x))
+    (⊎-elim (λ (k : x ≤ℤ y). k) (λ (k : y <ℤ x). absurd (not-zero (*ℤ-above h (*ℤ-above (sub-above k) (sub-above k))) (turned ∙ e))) (le-or-lt x y))
   where
     turned : a *ℤ ((x -ℤ y) *ℤ (x -ℤ y)) ≡ a *ℤ ((y -ℤ x) *ℤ (y -ℤ x))
     turned = ring (a ∷ x ∷ y ∷ []) (search quotes depth 12) (search quotes depth 12) refl
@@ -206,7 +194,7 @@ over-mono B a b h = step-mono h (le-or-lt a B) (le-or-lt b B)
 
 -- a label that moves by more than B where its want does not: its term of the law is above zero
 term-above : {a d w B : ℤ} → B <ℤ a → pos 0 <ℤ w → d ≤ℤ B → pos 0 <ℤ (pos 2 *ℤ (w *ℤ (a -ℤ d)))
-term-above h k l = *ℤ-above {a = pos 2} (record { lt = tt }) (*ℤ-above k (gap-above (lt-of-le-of-lt l h)))
+term-above h k l = *ℤ-above {a = pos 2} (record { lt = tt }) (*ℤ-above k (sub-above (lt-of-le-of-lt l h)))
 
 over-nonneg : {a d w B : ℤ} (s : (a ≤ℤ B) ⊎ (B <ℤ a)) → pos 0 <ℤ w → d ≤ℤ B → pos 0 ≤ℤ (step s *ℤ (pos 2 *ℤ (w *ℤ (a -ℤ d))))
 over-nonneg {a} {d} {w} (inl h) k l = zero-times {l = pos 0} (pos 2 *ℤ (w *ℤ (a -ℤ d))) refl

@@ -1,5 +1,7 @@
--- An outer step in whole numbers: what is known of the blocks at the two ends of a pushing gap, and what each advance comes to.
--- Labels and gaps are plain numbers: gap e goes from u e to v e over the distance g e; label i wants d i and weighs w i; F marks gaps.
+-- An outer step in whole numbers: what is known of the blocks at the two ends of a pushing gap,
+-- and what each advance comes to.
+-- Labels and gaps are plain numbers: gap e goes from u e to v e over the distance g e;
+-- label i wants d i and weighs w i; F marks gaps.
 use mathlib.Core.Path.{_≡_, refl, sym, _∙_, ap, ap₂}
 use mathlib.Core.Logic.{_≢_, ⊎-elim}
 use mathlib.Core.Bool.{Bool, true, false, true≢false}
@@ -11,19 +13,20 @@ use lib.Signed.{_≤ℤ_, _<ℤ_}
 use lib.Dec.{eqb}
 use borrow.Author.Tests.{eqb-true, eqb-false}
 use Rattle.algebra.specs.Sum.{sum, ind}
-use Rattle.algebra.proofs.Whole.{le-trans, le-of-eq, le-of-lt, lt-of-le-of-lt, *ℤ-nonneg, *ℤ-above, *ℤ-le, *ℤ-lt, *ℤ-lt-cancel}
+use Rattle.algebra.proofs.Whole.{le-trans, le-of-eq, le-of-lt, lt-of-le-of-lt, *ℤ-nonneg, *ℤ-above, *ℤ-le, *ℤ-lt, *ℤ-lt-cancel, sub-above}
 use Rattle.algebra.proofs.Ring.{ring, quotes, lt-given, lt-goal, le-by}
 use Rattle.algebra.proofs.Sum.{sum-cong, sum-*}
 use Rattle.least_move.specs.Sheet.{at-least, exactly, ignored}
 use Rattle.least_move.specs.States.{flow, OnlyOn, Independent, push, viol, dual, Numbers, Sound, StateAt, costAt, PlacedAt, Settled, Pushed, Reached, Without, With, Pushes}
 use Rattle.least_move.proofs.Flow.{flow-lin}
 use Rattle.least_move.proofs.Forest.{by-mark, multipliers-unique}
-use Rattle.least_move.proofs.Progress.{gap-above, work, state-drop, state-unpushed, with-push, dual-cost, progress-grows, progress-grows-lt, places-unique}
-use Rattle.least_move.proofs.Blocks.{pick-in, not-label, not-true, restrict-flow, state-marked}
+use Rattle.least_move.proofs.Progress.{work, state-drop, state-unpushed, dual-cost, progress-grows, progress-grows-lt, places-unique}
+use Rattle.least_move.proofs.Blocks.{with-push, pick-in, not-label, not-true, restrict-flow, state-marked}
 use Rattle.least_move.proofs.Advance.{Drift, Rate, state-along, rate-lawful, rate-spent, rate-way}
 
--- The block S of a root, of weight W: label i of it stands at num i / W, but for a force on the block; r and q are the loads that
--- eliminate what the labels lack of their balance, and their shares of the block's weight, towards the root.
+-- The block S of a root, of weight W: label i of it stands at num i / W, but for a force on the block;
+-- r and q are the loads that eliminate what the labels lack of their balance, and their shares of the block's weight,
+-- towards the root.
 pub record BlockSide (z : Numbers) (F : ℕ → Bool) (root : ℕ) (S : ℕ → Bool) (W : ℤ) (num share r q : ℕ → ℤ) : Type 0 where
   pub root-in : S root ≡ true
   pub above : pos 0 <ℤ W
@@ -45,7 +48,7 @@ le-both p q l = rw (p, q) l
 -- a violation by crossed products, at the scale N
 crossed : (N h xa na da xb nb db : ℤ) → pos 0 <ℤ N → pos 0 <ℤ da → pos 0 <ℤ db → xa *ℤ da ≡ N *ℤ na → xb *ℤ db ≡ N *ℤ nb → (nb *ℤ da) <ℤ (na *ℤ db +ℤ h *ℤ (da *ℤ db)) → pos 0 <ℤ (xa +ℤ N *ℤ h -ℤ xb)
 crossed N h xa na da xb nb db hN ha hb pa pb vi =
-    gap-above {x = xb} {y = xa +ℤ N *ℤ h}
+    sub-above {a = xb} {b = xa +ℤ N *ℤ h}
     (*ℤ-lt-cancel {c = da *ℤ db} (*ℤ-above ha hb)
     (lt-both
     (ring (da ∷ db ∷ xb ∷ []) (search quotes depth 12) (search quotes depth 12) refl ∙ ap (λ x. x *ℤ da) pb ∙ ring (N ∷ nb ∷ da ∷ []) (search quotes depth 12) (search quotes depth 12) refl)
@@ -409,7 +412,8 @@ module _ (z : Numbers) (F : ℕ → Bool) (a b : ℕ) (h : ℤ) (num den : ℕ �
     abbrev pub M : ℤ
     M = pos 2 *ℤ (at₁ a *ℤ W₂ +ℤ h *ℤ (W₁ *ℤ W₂) -ℤ at₂ b *ℤ W₁)
 
-    -- No breaking point of either block lies below R / P. A gap of the left block carries (r₁ − s·q₁) / W₁, one of the right block (r₂ + s·q₂) / W₂,
+    -- No breaking point of either block lies below R / P.
+    -- A gap of the left block carries (r₁ − s·q₁) / W₁, one of the right block (r₂ + s·q₂) / W₂,
     -- so that it breaks at r₁ / q₁ where q₁ is above zero, or at r₂ / −q₂ where q₂ is below.
     abbrev pub NoneBelow : ℤ → ℤ → Type 0
     NoneBelow R P =
@@ -531,15 +535,16 @@ module _ (z : Numbers) (F : ℕ → Bool) (a b : ℕ) (h : ℤ) (num den : ℕ �
     drop-apart {R} {P} k lk mk ka rate hP least before F' wo =
         let hτ : pos 0 ≤ℤ (p .N *ℤ R -ℤ P *ℤ p .s) = rate-way rate (p .lawful .carries k lk mk ka) in
         dropped z F a b h num den la lb ok p drift-apart rate-above P R hP hτ
-        (lt-both refl (viol-apart R P) (*ℤ-above (p .above) (gap-above before)))
+        (lt-both refl (viol-apart R P) (*ℤ-above (p .above) (sub-above before)))
         (lawful-apart R P (le-of-lt hP) hτ least) k (rate-spent rate) F' wo
 
-    -- a marked gap of the left block, or of the right one, whose load comes to zero first and before the gap is tight is dropped
+    -- a marked gap of the left block, or of the right one, whose load comes to zero first and before the gap is tight
+    -- is dropped
     pub drop-left : (k : ℕ) → k < z .m → F k ≡ true → S (z .u k) ≡ true → z .kind k ≡ at-least → pos 0 <ℤ q₁ k → NoneBelow (r₁ k) (q₁ k) → (r₁ k *ℤ Z) <ℤ (M *ℤ q₁ k) → (F' : ℕ → Bool) → Without (z .m) F k F' → Pushed z F' a b h num den
     drop-left k lk mk inside ka qa least before F' wo = drop-apart k lk mk ka (rate-left k lk inside) qa least before F' wo
 
     pub drop-right : (k : ℕ) → k < z .m → F k ≡ true → T (z .u k) ≡ true → z .kind k ≡ at-least → q₂ k <ℤ pos 0 → NoneBelow (r₂ k) (pos 0 -ℤ q₂ k) → (r₂ k *ℤ Z) <ℤ (M *ℤ (pos 0 -ℤ q₂ k)) → (F' : ℕ → Bool) → Without (z .m) F k F' → Pushed z F' a b h num den
-    drop-right k lk mk inside ka qa least before F' wo = drop-apart k lk mk ka (rate-right k lk inside) (gap-above qa) least before F' wo
+    drop-right k lk mk inside ka qa least before F' wo = drop-apart k lk mk ka (rate-right k lk inside) (sub-above qa) least before F' wo
 
     -- otherwise the gap becomes tight and is marked
     pub reach : NoneBelow M Z → (c : ℕ) → c < z .m → Pushes z c a b h → F c ≡ false → (F' : ℕ → Bool) → With (z .m) F c F' → Reached z F' num den

@@ -1,8 +1,9 @@
--- From whole numbers at a scale back to fractions: a settled state that meets every gap is a placement with multipliers that satisfy the conditions,
+-- From whole numbers at a scale back to fractions:
+-- a settled state that meets every gap is a placement with multipliers that satisfy the conditions,
 -- and its forest is a set of marks.
 use mathlib.Core.Path.{_≡_, refl, sym, _∙_, ap, ap₂}
 use mathlib.Core.Bool.{Bool, true, false, true≢false}
-use mathlib.Core.List.{List, [], _∷_}
+use mathlib.Core.List.{[], _∷_}
 use Prim.Native.Nat.{ℕ, _<_}
 use native.Mathlib.Omega.{arith}
 use lib.IntN.{ℤ, pos, natAbs, _+ℤ_, _-ℤ_, _*ℤ_, *ℤ-comm, *ℤ-zero}
@@ -11,8 +12,8 @@ use lib.Dec.{eqb}
 use borrow.Author.Tests.{eqb-true, eq-eqb}
 use Rattle.exact.specs.declared.Fraction.{Fraction}
 use Rattle.exact.specs.Fraction.{IsFraction, _≃_, whole, Reduced}
-use Rattle.algebra.proofs.Whole.{le-trans, le-of-eq, le-of-lt, *ℤ-above, *ℤ-nonneg, *ℤ-le-cancel, *ℤ-cancel}
-use Rattle.algebra.proofs.Ring.{ring, quotes, le-given, le-goal}
+use Rattle.algebra.proofs.Whole.{le-trans, le-of-eq, le-of-lt, *ℤ-above, *ℤ-nonneg, *ℤ-le-cancel, *ℤ-cancel, sub-nonneg}
+use Rattle.algebra.proofs.Ring.{ring, quotes}
 use Rattle.algebra.specs.Sum.{ind}
 use Rattle.exact.proofs.Fractions.{AtScale, scale-resp}
 use Rattle.ground.specs.declared.Label.{Label}
@@ -40,14 +41,6 @@ numbersFrom s =
       w = weights s;
       d = λ i. s .wanted (label i);
       g = λ e. s .gap (gapNumber e) .distance;
-    }
-
-pub proper-sound : (s : Sheet) → Proper s → Sound (numbersFrom s)
-proper-sound s p =
-    record {
-      left-in = λ e. p .left-in (gapNumber e);
-      right-in = λ e. p .right-in (gapNumber e);
-      heavy = λ i. p .heavy (label i);
     }
 
 pub sound-proper : (s : Sheet) → Sound (numbersFrom s) → Proper s
@@ -150,12 +143,7 @@ crossed N g xa na da xb nb db pa pb =
 slack-least : (N g xa na da xb nb db : ℤ) → pos 0 <ℤ N → pos 0 <ℤ da → pos 0 <ℤ db → xa *ℤ da ≡ N *ℤ na → xb *ℤ db ≡ N *ℤ nb → (na *ℤ db +ℤ g *ℤ (da *ℤ db)) ≤ℤ (nb *ℤ da) → pos 0 ≤ℤ (xb -ℤ xa -ℤ N *ℤ g)
 slack-least N g xa na da xb nb db hN ha hb pa pb h =
     *ℤ-le-cancel {c = da *ℤ db} (*ℤ-above ha hb)
-    (le-trans (le-of-eq (*ℤ-zero (da *ℤ db))) (le-trans (*ℤ-nonneg (le-of-lt hN) (room (na *ℤ db +ℤ g *ℤ (da *ℤ db)) (nb *ℤ da) h)) (le-of-eq (sym (crossed N g xa na da xb nb db pa pb)))))
-  where
-    room : (a b : ℤ) → a ≤ℤ b → pos 0 ≤ℤ (b -ℤ a)
-    room a b l =
-        let ρ : List ℤ = a ∷ b ∷ [] in
-        le-goal ρ (search quotes depth 12) (search quotes depth 12) (omega (arith, le-given ρ (search quotes depth 12) (search quotes depth 12) l))
+    (le-trans (le-of-eq (*ℤ-zero (da *ℤ db))) (le-trans (*ℤ-nonneg (le-of-lt hN) (sub-nonneg h)) (le-of-eq (sym (crossed N g xa na da xb nb db pa pb)))))
 
 slack-none : (N g xa na da xb nb db : ℤ) → pos 0 <ℤ da → pos 0 <ℤ db → xa *ℤ da ≡ N *ℤ na → xb *ℤ db ≡ N *ℤ nb → na *ℤ db +ℤ g *ℤ (da *ℤ db) ≡ nb *ℤ da → xb -ℤ xa -ℤ N *ℤ g ≡ pos 0
 slack-none N g xa na da xb nb db ha hb pa pb h =

@@ -1,4 +1,5 @@
--- The sheets on the bench (document 01): its cases P1 to P10 in one list, in its order, and what it is for a case to be right.
+-- The sheets on the bench (document 01): its cases P1 to P10 in one list, in its order,
+-- and what it is for a case to be right.
 use Prim.Native.Nat.{ℕ, _<_}
 use mathlib.Core.Path.{_≡_}
 use mathlib.Core.Bool.{false, cond}
@@ -78,7 +79,8 @@ P3 =
       multipliers = pos 3 over 1 ∷ [];
     }
 
--- The document gives no multipliers for P4, P8 and P9. Those here are worked out: 4, 5 and 0, and 0 balance their labels.
+-- The document gives no multipliers for P4, P8 and P9.
+-- Those here are worked out: 4, 5 and 0, and 0 balance their labels.
 abbrev pub P4 : Placed
 P4 =
     record {
@@ -106,7 +108,8 @@ bench =
     -- P4 wants 1, 3, else as P3: -1, 5. One want moved by 1, both places by 1/2
     ∷ placed P4
     ∷ moved (record { before = P3; after = P4; label = 0; want-by = pos 1; places-by = pos 1 over 2 })
-    -- P5 wants 0, 100, weights 1, gap 10, carried record marked: 0, 100, multiplier 0. The definitions do not read the carried record
+    -- P5 wants 0, 100, weights 1, gap 10, carried record marked: 0, 100, multiplier 0.
+    -- The definitions do not read the carried record
     ∷ placed (record {
       sheet = sheet (pos 0 ∷ pos 100 ∷ []) (pos 1 ∷ pos 1 ∷ []) (0 to 1 of pos 10 ∷ []);
       places = pos 0 over 1 ∷ pos 100 over 1 ∷ [];
@@ -114,7 +117,9 @@ bench =
     })
     -- P6 wants 0, 0, 0, weights 1, gaps 0 to 1 of 2, 1 to 2 of 2, 0 to 2 of 10: -5, 0, 5; multipliers 0, 0, 10
     ∷ placed (record {
-      sheet = sheet (pos 0 ∷ pos 0 ∷ pos 0 ∷ []) (pos 1 ∷ pos 1 ∷ pos 1 ∷ []) (0 to 1 of pos 2 ∷ 1 to 2 of pos 2 ∷ 0 to 2 of pos 10 ∷ []);
+      sheet =
+          sheet (pos 0 ∷ pos 0 ∷ pos 0 ∷ []) (pos 1 ∷ pos 1 ∷ pos 1 ∷ [])
+          (0 to 1 of pos 2 ∷ 1 to 2 of pos 2 ∷ 0 to 2 of pos 10 ∷ []);
       places = minus 5 over 1 ∷ pos 0 over 1 ∷ pos 5 over 1 ∷ [];
       multipliers = pos 0 over 1 ∷ pos 0 over 1 ∷ pos 10 over 1 ∷ [];
     })
@@ -173,7 +178,8 @@ multipliers c e = getD (c .multipliers) (e .0) (whole (pos 0))
 abbrev pub Weighted : Written → Type 0
 Weighted w = length (w .weights) ≡ length (w .wants)
 
--- one place per label and one multiplier per gap, which meet the conditions; the placement is the least move, and each fraction is in lowest terms
+-- one place per label and one multiplier per gap, which meet the conditions;
+-- the placement is the least move, and each fraction is in lowest terms
 pub record RightPlaced (c : Placed) : Type 0 where
   pub weighted : Weighted (c .sheet)
   pub per-label : length (c .places) ≡ length (c .sheet .wants)
@@ -197,17 +203,23 @@ pub record RightRefused (c : Refused) : Type 0 where
   pub ring : RingOf (written (c .sheet)) (c .ring)
   pub none : (p : Placement) → ¬ (Feasible (written (c .sheet)) p)
 
--- two sheets with the same weights and gaps: the want of the one label is moved so far and no other is, and every place is moved so far
+-- two sheets with the same weights and gaps: the want of the one label is moved so far and no other is,
+-- and every place is moved so far
 pub record RightMoved (c : Moved) : Type 0 where
   pub before : RightPlaced (c .before)
   pub after : RightPlaced (c .after)
   pub labels : sheetOf (c .after) .labels ≡ sheetOf (c .before) .labels
   pub gaps : sheetOf (c .after) .gaps ≡ sheetOf (c .before) .gaps
-  pub weight : (i : Label) → i .0 < sheetOf (c .before) .labels → sheetOf (c .after) .weight i ≡ sheetOf (c .before) .weight i
-  pub gap : (e : GapNumber) → e .0 < sheetOf (c .before) .gaps → sheetOf (c .after) .gap e ≡ sheetOf (c .before) .gap e
+  pub weight : (i : Label) → i .0 < sheetOf (c .before) .labels →
+      sheetOf (c .after) .weight i ≡ sheetOf (c .before) .weight i
+  pub gap : (e : GapNumber) → e .0 < sheetOf (c .before) .gaps →
+      sheetOf (c .after) .gap e ≡ sheetOf (c .before) .gap e
   pub one : c .label < sheetOf (c .before) .labels
-  pub want : (i : Label) → i .0 < sheetOf (c .before) .labels → sheetOf (c .after) .wanted i -ℤ sheetOf (c .before) .wanted i ≡ cond (eqb (i .0) (c .label)) (c .want-by) (pos 0)
-  pub place : (i : Label) → i .0 < sheetOf (c .before) .labels → placement (c .after) i ⊖ placement (c .before) i ≃ c .places-by
+  pub want : (i : Label) → i .0 < sheetOf (c .before) .labels →
+      sheetOf (c .after) .wanted i -ℤ sheetOf (c .before) .wanted i
+      ≡ cond (eqb (i .0) (c .label)) (c .want-by) (pos 0)
+  pub place : (i : Label) → i .0 < sheetOf (c .before) .labels →
+      placement (c .after) i ⊖ placement (c .before) i ≃ c .places-by
 
 abbrev pub RightCase : Case → Type 0
 RightCase (placed c) = RightPlaced c

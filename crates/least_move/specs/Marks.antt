@@ -44,7 +44,8 @@ pub record MarkedRing (s : Sheet) (marked : GapNumber → Bool) (first : Step) (
   pub along : Each (λ t. (t .by .0 < s .gaps) × (marked (t .by) ≡ true)) (first ∷ rest)
   pub once : Once (first ∷ rest)
 
--- "marked gaps are tight, no ring can be walked along marked gaps, each passed at most once and either way, and each unmarked gap has multiplier 0"
+-- "marked gaps are tight, no ring can be walked along marked gaps, each passed at most once and either way,
+-- and each unmarked gap has multiplier 0"
 pub record Marks (s : Sheet) (p : Placement) (m : Multipliers) (marked : GapNumber → Bool) : Type 0 where
   pub tight : (e : GapNumber) → e .0 < s .gaps → marked e ≡ true → Tight p (s .gap e)
   pub no-ring : (first : Step) (rest : List Step) → ¬ (MarkedRing s marked first rest)

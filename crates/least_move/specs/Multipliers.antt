@@ -40,7 +40,8 @@ pub record Conditions (s : Sheet) (p : Placement) (m : Multipliers) : Type 0 whe
   pub lawful : (e : GapNumber) → e .0 < s .gaps → Lawful (s .gap e .kind) (m e)
   -- "zero where the gap is not tight"
   pub slack : (e : GapNumber) → e .0 < s .gaps → ¬ (Tight p (s .gap e)) → m e ≃ whole (pos 0)
-  -- "2 × w × (place - d) = the sum of multipliers of gaps with this label on the right, less the sum of those with it on the left"
+  -- "2 × w × (place - d) = the sum of multipliers of gaps with this label on the right,
+  -- less the sum of those with it on the left"
   pub balance : (i : Label) → i .0 < s .labels → pos 2 ⊛ (s .weight i ⊛ move s p i) ≃ (asRight s m i ⊖ asLeft s m i)
   -- "A gap of a label to itself .. its multiplier is 0"
   pub self : (e : GapNumber) → e .0 < s .gaps → s .gap e .left ≡ s .gap e .right → m e ≃ whole (pos 0)

@@ -33,7 +33,8 @@ pub record Sheet : Type 0 where
   pub weight : Label → ℤ
   pub gap : GapNumber → Gap
 
--- what every sheet has that passes document 01's checks 6 and 7: weights above zero, and gaps whose ends are labels of the sheet
+-- what every sheet has that passes document 01's checks 6 and 7:
+-- weights above zero, and gaps whose ends are labels of the sheet
 pub record Proper (s : Sheet) : Type 0 where
   pub heavy : (i : Label) → i .0 < s .labels → pos 0 <ℤ s .weight i
   pub left-in : (e : GapNumber) → e .0 < s .gaps → s .gap e .left .0 < s .labels

@@ -1,6 +1,7 @@
--- The states of the method in whole numbers: what the contracts of the core speak of. Gap e goes from label u e to label v e over the
--- distance g e and carries Λ e; label i wants d i and weighs w i; F marks gaps. A fraction x stands as the whole number N × x, at a scale N.
-use Prim.Native.Nat.{ℕ, zero, suc, _*_, _-_, _/_, _<_}
+-- The states of the method in whole numbers: what the contracts of the core speak of.
+-- Gap e goes from label u e to label v e over the distance g e and carries Λ e; label i wants d i and weighs w i;
+-- F marks gaps. A fraction x stands as the whole number N × x, at a scale N.
+use Prim.Native.Nat.{ℕ, zero, suc, _+_, _*_, _-_, _/_, _<_}
 use mathlib.Core.Path.{_≡_}
 use mathlib.Core.Logic.{_⊎_, _≢_}
 use mathlib.Core.Bool.{Bool, true, false}
@@ -9,7 +10,7 @@ use lib.IntN.{ℤ, pos, natAbs, _+ℤ_, _-ℤ_, _*ℤ_}
 use lib.Signed.{_≤ℤ_, _<ℤ_}
 use Rattle.algebra.specs.Sum.{sum, ind}
 use Rattle.least_move.specs.Sheet.{Kind, at-least, exactly, ignored}
-use Rattle.ground.specs.Limits.{blockWeightMost, coreWeightMost, labelsMost}
+use Rattle.ground.specs.Limits.{blockWeightMost, coreWantedMost, coreWeightMost, labelsMost, offsetMost}
 
 -- ---- flows along gaps
 
@@ -23,7 +24,8 @@ OnlyOn m F Λ = (e : ℕ) → e < m → F e ≡ false → Λ e ≡ pos 0
 
 -- the marks hold no ring: only the load of nothing balances every label
 pub record Independent (n m : ℕ) (u v : ℕ → ℕ) (F : ℕ → Bool) : Type 0 where
-  pub nothing : (Λ : ℕ → ℤ) → OnlyOn m F Λ → ((i : ℕ) → i < n → flow m u v Λ i ≡ pos 0) → (e : ℕ) → e < m → Λ e ≡ pos 0
+  pub nothing : (Λ : ℕ → ℤ) → OnlyOn m F Λ → ((i : ℕ) → i < n → flow m u v Λ i ≡ pos 0) →
+      (e : ℕ) → e < m → Λ e ≡ pos 0
 
 -- ---- the numbers of a sheet
 
@@ -93,7 +95,8 @@ pub record Settled (z : Numbers) (F : ℕ → Bool) (num den : ℕ → ℤ) : Ty
   pub lawful : Lawful z F Λ
   pub places : PlacedAt z N X num den
 
--- within an outer step: label a pushes label b, which should stand h to its right; the places at the start were num i / den i
+-- within an outer step: label a pushes label b, which should stand h to its right;
+-- the places at the start were num i / den i
 pub record Pushed (z : Numbers) (F : ℕ → Bool) (a b : ℕ) (h : ℤ) (num den : ℕ → ℤ) : Type 0 where
   pub N : ℤ
   pub s : ℤ
@@ -129,7 +132,8 @@ pub record With (m : ℕ) (F : ℕ → Bool) (k : ℕ) (F' : ℕ → Bool) : Typ
   pub there : F' k ≡ true
   pub others : (e : ℕ) → e < m → e ≢ k → F' e ≡ F e
 
--- gap k asks that label b stand at least h to the right of label a: a gap of the kind at least as it is, an exact one either way
+-- gap k asks that label b stand at least h to the right of label a:
+-- a gap of the kind at least as it is, an exact one either way
 abbrev pub Pushes : Numbers → ℕ → ℕ → ℕ → ℤ → Type 0
 Pushes z k a b h =
     ((z .u k ≡ a) × (z .v k ≡ b) × (z .g k ≡ h) × (z .kind k ≢ ignored))
@@ -142,7 +146,7 @@ unfoldable pub fact : ℕ → ℕ
 fact zero = 1
 fact (suc n) = suc n * fact n
 
--- divided by every weight that a block can have: at most 48 labels of 3,600 each
+-- divided by every weight that a block can have
 unfoldable pub K : ℕ
 K = fact blockWeightMost
 
@@ -154,12 +158,14 @@ atK num den = num *ℤ pos (K / natAbs den)
 unfoldable pub costK : (z : Numbers) (num den : ℕ → ℤ) → ℤ
 costK z num den = costAt z (pos K) (λ i. atK (num i) (den i))
 
--- how far a label moves at most, at the scale K, and the cost of 48 such moves
+-- how far a label moves at most, at the scale K: it wants and stands within the largest want, and an offset further
 unfoldable pub far : ℕ
-far = 2140000 * K
+far = (2 * coreWantedMost + offsetMost) * K
 
+-- the cost of such moves of every label, of the largest weight
 unfoldable pub limit : ℕ
 limit = labelsMost * (coreWeightMost * (far * far))
 
+-- what is left of it, which falls with each outer step
 unfoldable pub measure : (z : Numbers) (num den : ℕ → ℤ) → ℕ
 measure z num den = limit - natAbs (costK z num den)

@@ -18,7 +18,7 @@ use Rattle.sheet_checks.specs.Refusals.{Verdict, check, table}
 use Rattle.layout.specs.Promise.{Promise, ByTable}
 use Rattle.ground.specs.Answers.{refusal}
 use Rattle.records.specs.Records.{keptOf, copied, Apart, Keeps}
-use Rattle.records.proofs.Same.{SameGaps, promise-same}
+use Rattle.layout.proofs.Same.{SameGaps, promise-same}
 
 -- ---- copying
 
@@ -85,7 +85,15 @@ pub record ApartTo (n : ℕ) (kept : List GapRecord) (left right : List ℕ) (di
   pub distances : (k : ℕ) → k < n → getD distance k (pos 0) ≡ getD kept k noRecord .distance
 
 pub apart-start : (kept : List GapRecord) {left right : List ℕ} {distance : List ℤ} → length left ≡ 192 → length right ≡ 192 → length distance ≡ 192 → ApartTo 0 kept left right distance
-apart-start kept l r d = record { left-length = l; right-length = r; distance-length = d; lefts = λ k h. absurd (omega arith); rights = λ k h. absurd (omega arith); distances = λ k h. absurd (omega arith) }
+apart-start kept l r d =
+    record {
+      left-length = l;
+      right-length = r;
+      distance-length = d;
+      lefts = λ k h. absurd (omega arith);
+      rights = λ k h. absurd (omega arith);
+      distances = λ k h. absurd (omega arith);
+    }
 
 -- one more entry
 set-more : {A : Type 0} (none : A) (l : List A) (n : ℕ) (f : ℕ → A) → n < length l → ((k : ℕ) → k < n → getD l k none ≡ f k) → (k : ℕ) → k < n + 1 → getD (set l n (f n)) k none ≡ f k
@@ -128,7 +136,11 @@ module _ (wanted weight : List ℤ) (count : ℕ) (kept : List GapRecord) (w : W
   promise-kept left right distance a after few apart p gs keeps = promise-same wanted weight same w after a p
     where
       sizes : (length (take count left) ≡ count) × (length (take count right) ≡ count) × (length (take count distance) ≡ count)
-      sizes = (length-take-le count left (omega (arith, apart .left-length)), length-take-le count right (omega (arith, apart .right-length)), length-take-le count distance (omega (arith, apart .distance-length)))
+      sizes = (
+        length-take-le count left (omega (arith, apart .left-length)),
+        length-take-le count right (omega (arith, apart .right-length)),
+        length-take-le count distance (omega (arith, apart .distance-length)),
+      )
 
       gaps : (k : ℕ) → k < length (take count left) → recordAt (lists (take count left) (take count right) (take count distance)) k ≡ getD gs k noRecord
       gaps k l =
@@ -152,7 +164,11 @@ module _ (wanted weight : List ℤ) (count : ℕ) (kept : List GapRecord) (w : W
   long-kept r a false true later h e = (e, refl)
   long-kept r a false false later h e = absurd (h refl)
 
-  pub promise-long : (a : Answer) (many : Bool) → 192 < count → ltb 48 (length wanted) ≡ many → a ≡ refusal (cond many 1 2) 0 0 → (gs : List GapRecord) → Keeps gs count kept → Promise (record { wanted = wanted; weight = weight; gaps = records gs }) w a w
+  pub promise-long : (a : Answer) (many : Bool) → 192 < count → ltb 48 (length wanted) ≡ many → a ≡ refusal (cond many 1 2) 0 0
+      → (gs : List GapRecord) → Keeps gs count kept → Promise (record { wanted = wanted; weight = weight; gaps = records gs }) w a w
   unfolding table
   promise-long a many long t e gs keeps =
-      record { kept = long-kept (record { wanted = wanted; weight = weight; gaps = records gs }) a (ltb 48 (length wanted)) (ltb 192 (length gs)) _ (λ q. omega (arith, ltb-false 192 (length gs) q, keeps .counted)) (rw t e) }
+      record {
+        kept = long-kept (record { wanted = wanted; weight = weight; gaps = records gs }) a (ltb 48 (length wanted)) (ltb 192 (length gs)) _
+            (λ q. omega (arith, ltb-false 192 (length gs) q, keeps .counted)) (rw t e);
+      }

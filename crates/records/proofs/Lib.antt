@@ -1,3 +1,2 @@
-pub mod Same
 pub mod Kept
 pub mod Rows

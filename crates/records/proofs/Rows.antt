@@ -1,4 +1,5 @@
--- A local array, whole and by its elements: what a walk has to do to write an array by the element. It says nothing of the crate.
+-- A local array, whole and by its elements: what a walk has to do to write an array by the element.
+-- It says nothing of the crate.
 use mathlib.Core.Path.{_≡_, refl}
 use Prim.Native.Nat.{ℕ, zero, suc}
 use mathlib.Core.Bool.{Bool, true, _&&_}

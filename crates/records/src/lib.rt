@@ -113,7 +113,8 @@ fn lay_out_kept(
     )
 }
 
-// Lays out a sheet. Anything may be lent; a sheet that breaks a rule is refused, and then nothing is written but a ring's gap numbers.
+// Lays out a sheet. Anything may be lent; a sheet that breaks a rule is refused,
+// and then nothing is written but a ring's gap numbers.
 pub fn lay_out_records(
     wanted: &[i64],
     weight: &[i64],
@@ -126,8 +127,8 @@ pub fn lay_out_records(
     ring: &mut [usize],
 ) -> Answer
     ensures { λ r.
-        let room = roomLent carried «place_num» «place_den» «mult_num» «mult_den» ring in
         let sheet = recordsLent wanted weight gaps in
+        let room = roomLent carried «place_num» «place_den» «mult_num» «mult_den» ring in
         ⌜ Promise sheet (room .entry) r (room .exit) ⌝ }
 {
     let count = gaps.len();

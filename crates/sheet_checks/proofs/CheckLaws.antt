@@ -1,4 +1,5 @@
--- What the checks' loops and tests show of the refusal table: the first offender of a list, and tests that pass or refuse.
+-- What the checks' loops and tests show of the refusal table:
+-- the first offender of a list, and tests that pass or refuse.
 use Prim.Native.Nat.{ℕ, zero, suc, _≤_, _<_, _+_, _^_}
 use mathlib.Core.Path.{_≡_, refl, sym, _∙_, subst}
 use mathlib.Core.Bool.{Bool, true, false, cond, _||_}
@@ -6,13 +7,15 @@ use mathlib.Core.List.{List}
 use native.Mathlib.Omega.{arith}
 use lib.Dec.{ltb, eqb}
 use lib.ListN.{length, getD}
-use lib.IntN.{ℤ, pos, negsuc}
+use lib.IntN.{ℤ, pos, negℤ}
 use lib.Signed.{ltZ, mag}
 use mir.Syntax.{w64}
-use mir.Val.{SFits, toZ, ofZ}
+use mir.Val.{SFits}
 use mir.ValLaws.{toZ-ofZ}
 use borrow.Author.Count.{below-more}
 use borrow.Author.Tests.{ltb-true, ltb-false, eqb-true, not-false, lt-ltb, le-ltb}
+use Rattle.algebra.proofs.Quotient.{kept}
+use Rattle.ground.specs.Limits.{distanceMost, gapsMost, labelsMost, wantedMost, weightLeast, weightMost}
 use Rattle.sheet_checks.specs.declared.Checked.{Checked}
 use Rattle.sheet_checks.specs.declared.Checked.the-variants.{Pass, Refuse}
 use Rattle.sheet_checks.specs.declared.check.Room.{Room}
@@ -41,9 +44,6 @@ offender-first number (suc n) k bad h clear e later =
         rw (same, e) (offender-none number k bad clear (refuse number k))
 
 -- ---- numbers outside a range, as 64 bits hold them
-
-abbrev kept : ℤ → ℤ
-kept z = toZ w64 (ofZ w64 z)
 
 -- the number read, tested against both ends
 module _ (z least most : ℤ) (small : mag z < 2 ^ 63) where
@@ -132,19 +132,19 @@ alone (Refuse number place) = refl
 
 module _ (wanted weight : List ℤ) (left right : List ℕ) (distance : List ℤ) (even : Even wanted weight left right distance) where
   abbrev eight : Verdict
-  eight = offender 8 (length left) (λ k. outside (negsuc 19999) (pos 20000) (getD distance k (pos 0))) pass
+  eight = offender 8 (length left) (λ k. outside (negℤ (pos distanceMost)) (pos distanceMost) (getD distance k (pos 0))) pass
 
   abbrev seven : Verdict
   seven = offender 7 (length left) (strange (length wanted) left right) eight
 
   abbrev six : Verdict
-  six = offender 6 (length wanted) (λ k. outside (pos 1) (pos 100) (getD weight k (pos 0))) seven
+  six = offender 6 (length wanted) (λ k. outside (pos weightLeast) (pos weightMost) (getD weight k (pos 0))) seven
 
-  module _ (plate : Checked) (by5 : OutsideBy wanted (negsuc 199999) (pos 200000) 5 plate) where
+  module _ (plate : Checked) (by5 : OutsideBy wanted (negℤ (pos wantedMost)) (pos wantedMost) 5 plate) where
     pub ends-5 : {number place : ℕ} → plate ≡ Refuse number place → ContentsBy wanted weight left right distance plate
     ends-5 e = ends plate e six ∙ by5 six
 
-    module _ (passed5 : plate ≡ Pass) (weights : Checked) (by6 : OutsideBy weight (pos 1) (pos 100) 6 weights) where
+    module _ (passed5 : plate ≡ Pass) (weights : Checked) (by6 : OutsideBy weight (pos weightLeast) (pos weightMost) 6 weights) where
       -- from check 6 on
       from-6 : {v : Verdict} → v ≡ onward weights seven → v ≡ contentsOf wanted weight left right distance
       from-6 e = e ∙ by6 seven ∙ rw (even .weights) (goes-on plate passed5 six ∙ by5 six)
@@ -156,7 +156,7 @@ module _ (wanted weight : List ℤ) (left right : List ℕ) (distance : List ℤ
         pub ends-7 : {number place : ℕ} → strangers ≡ Refuse number place → ContentsBy wanted weight left right distance strangers
         ends-7 e = from-6 (ends strangers e eight ∙ by7 eight ∙ goes-on weights passed6 seven)
 
-        pub ends-8 : strangers ≡ Pass → (r : Checked) → OutsideBy distance (negsuc 19999) (pos 20000) 8 r → ContentsBy wanted weight left right distance r
+        pub ends-8 : strangers ≡ Pass → (r : Checked) → OutsideBy distance (negℤ (pos distanceMost)) (pos distanceMost) 8 r → ContentsBy wanted weight left right distance r
         ends-8 passed7 r by8 = from-6 (alone r ∙ by8 pass ∙ rw (even .distances) (goes-on strangers passed7 eight ∙ by7 eight ∙ goes-on weights passed6 seven))
 
 -- ---- all checks
@@ -187,8 +187,8 @@ module _ (wanted weight : List ℤ) (left right : List ℕ) (distance : List ℤ
 
   pub passed-even : first ≡ Pass → Even wanted weight left right distance
   passed-even e =
-      let c1 = check-pass 1 0 _ (ltb 48 (length wanted)) (sym (goes-on first e pass ∙ by pass)) in
-      let c2 = check-pass 2 0 _ (ltb 192 (length left)) (c1 .1) in
+      let c1 = check-pass 1 0 _ (ltb labelsMost (length wanted)) (sym (goes-on first e pass ∙ by pass)) in
+      let c2 = check-pass 2 0 _ (ltb gapsMost (length left)) (c1 .1) in
       let c3 = check-pass 3 0 (shortOf (length wanted) (length left) room pass) (unequal (length weight) (length wanted) || (unequal (length right) (length left) || unequal (length distance) (length left)) || unequal (room .carried) (length left)) (c2 .1) in
       let clear = none-of (unequal (length weight) (length wanted)) (unequal (length right) (length left)) (unequal (length distance) (length left)) (unequal (room .carried) (length left)) (c3 .0) in
       record {

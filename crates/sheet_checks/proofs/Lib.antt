@@ -1,2 +1,3 @@
 pub mod Passed
 pub mod CheckLaws
+pub mod WrongChecks

@@ -10,6 +10,7 @@ use lib.Signed.{_<ℤ_}
 use borrow.Author.Tests.{ltb-true, ltb-false, not-false}
 use Rattle.algebra.proofs.Whole.{parts-lt}
 use Rattle.least_move.specs.Sheet.{Proper}
+use Rattle.ground.specs.Limits.{gapsMost, labelsMost, weightLeast, weightMost}
 use Rattle.sheet_checks.specs.Lent.{Read, Written, labelCount, gapCount, recordAt, sheetOf}
 use Rattle.sheet_checks.specs.Refusals.{Verdict, refuse, pass, offender, outside, ragged, short, offPlate, badWeight, stranger, badGap, table}
 
@@ -43,8 +44,8 @@ or-clear false b e = (refl, e)
 
 -- the table passed: every check's test was false
 pub record Passed (r : Read) (w : Written) : Type 0 where
-  pub few-labels : labelCount r ≤ 48
-  pub few-gaps : gapCount r ≤ 192
+  pub few-labels : labelCount r ≤ labelsMost
+  pub few-gaps : gapCount r ≤ gapsMost
   pub even : ragged r w ≡ false
   pub room : short r w ≡ false
   pub on-plate : (k : ℕ) → k < labelCount r → offPlate r k ≡ false
@@ -55,8 +56,8 @@ pub record Passed (r : Read) (w : Written) : Type 0 where
 pub table-passed : (r : Read) (w : Written) → table r w ≡ pass → Passed r w
 unfolding table
 table-passed r w e =
-    let c1 = check-pass 1 0 _ (ltb 48 (labelCount r)) e in
-    let c2 = check-pass 2 0 _ (ltb 192 (gapCount r)) (c1 .1) in
+    let c1 = check-pass 1 0 _ (ltb labelsMost (labelCount r)) e in
+    let c2 = check-pass 2 0 _ (ltb gapsMost (gapCount r)) (c1 .1) in
     let c3 = check-pass 3 0 _ (ragged r w) (c2 .1) in
     let c4 = check-pass 4 0 _ (short r w) (c3 .1) in
     let c5 = offender-pass 5 (labelCount r) (offPlate r) _ (c4 .1) in
@@ -64,8 +65,8 @@ table-passed r w e =
     let c7 = offender-pass 7 (gapCount r) (stranger r) _ (c6 .1) in
     let c8 = offender-pass 8 (gapCount r) (badGap r) pass (c7 .1) in
     record {
-      few-labels = ltb-false 48 (labelCount r) (c1 .0);
-      few-gaps = ltb-false 192 (gapCount r) (c2 .0);
+      few-labels = ltb-false labelsMost (labelCount r) (c1 .0);
+      few-gaps = ltb-false gapsMost (gapCount r) (c2 .0);
       even = c3 .0;
       room = c4 .0;
       on-plate = c5 .0;
@@ -75,7 +76,7 @@ table-passed r w e =
     }
 
 -- a weight in its range is above zero
-above-of-weight : (z : ℤ) → outside (pos 1) (pos 100) z ≡ false → pos 0 <ℤ z
+above-of-weight : (z : ℤ) → outside (pos weightLeast) (pos weightMost) z ≡ false → pos 0 <ℤ z
 above-of-weight (pos zero) e = absurd (let z : _≡_ {A = ℕ} 0 1 = cc in omega arith)
 above-of-weight (pos (suc n)) e = parts-lt (omega arith)
 above-of-weight (negsuc n) e = absurd (let z : _≡_ {A = ℕ} 0 1 = cc in omega arith)

@@ -2,16 +2,16 @@
 use Prim.Native.Nat.{ℕ}
 use mathlib.Core.List.{List}
 use lib.ListN.{length, getD}
-use lib.IntN.{ℤ, pos}
-use Rattle.exact.specs.declared.Fraction.{Fraction}
+use lib.IntN.{ℤ}
+use denote.Ref.{RefT, now}
+use denote.Triple.Both.{Both}
 use Rattle.ground.specs.declared.GapRecord.{GapRecord}
 use Rattle.ground.specs.declared.Label.{Label}
 use Rattle.ground.specs.declared.GapNumber.{GapNumber}
-use Rattle.least_move.specs.Sheet.{Sheet, at-least, label}
-use Rattle.ground.specs.Entries.{noRecord}
-use denote.Triple.Both.{Both}
+use Rattle.ground.specs.Entries.{nat, int, noRecord}
 use Rattle.ground.specs.Views.{Param}
-use denote.Ref.{RefT, now}
+use Rattle.exact.specs.declared.Fraction.{Fraction}
+use Rattle.least_move.specs.Sheet.{Sheet, Gap, at-least, label}
 
 -- "left, right and distance of each gap. The gaps may also be lent as one list of records"
 pub data LentGaps : Type 0 where
@@ -33,7 +33,8 @@ pub record Written : Type 0 where
   pub ring : List ℕ
   pub carried : List ℕ
 
--- "Labels are counted by the list of wanted places, gaps by the list of left labels, or by the list of records where that is lent"
+-- "Labels are counted by the list of wanted places, gaps by the list of left labels,
+-- or by the list of records where that is lent"
 abbrev pub labelCount : Read → ℕ
 labelCount r = length (r .wanted)
 
@@ -46,22 +47,26 @@ gapCount r = countOf (r .gaps)
 
 -- the gap of a number
 abbrev pub recordAt : LentGaps → ℕ → GapRecord
-recordAt (lists l r g) k = record { left = getD l k 0; right = getD r k 0; distance = getD g k (pos 0) }
+recordAt (lists l r g) k = record { left = nat l k; right = nat r k; distance = int g k }
 recordAt (records gs) k = getD gs k noRecord
 
--- the sheet that is lent; every gap of document 01 asks for at least its distance
+-- every gap of document 01 asks for at least its distance
+abbrev pub atLeast : GapRecord → Gap
+atLeast g = record { left = label (g .left); right = label (g .right); distance = g .distance; kind = at-least }
+
+-- the sheet that is lent
 unfoldable pub sheetOf : Read → Sheet
 sheetOf r = record {
   labels = labelCount r;
   gaps = gapCount r;
-  wanted = λ i. getD (r .wanted) (i .0) (pos 0);
-  weight = λ i. getD (r .weight) (i .0) (pos 0);
-  gap = λ e. record { left = label (recordAt (r .gaps) (e .0) .left); right = label (recordAt (r .gaps) (e .0) .right); distance = recordAt (r .gaps) (e .0) .distance; kind = at-least };
+  wanted = λ i. int (r .wanted) (i .0);
+  weight = λ i. int (r .weight) (i .0);
+  gap = λ e. atLeast (recordAt (r .gaps) (e .0));
 }
 
 -- "A label's place is the numerator written for it over the denominator written for it", and so a gap's multiplier
 abbrev pub fractionAt : List ℤ → List ℤ → ℕ → Fraction
-fractionAt nums dens k = record { num = getD nums k (pos 0); den = getD dens k (pos 0) }
+fractionAt nums dens k = record { num = int nums k; den = int dens k }
 
 abbrev pub placeOf : Written → Label → Fraction
 placeOf w i = fractionAt (w .place-num) (w .place-den) (i .0)
@@ -72,21 +77,34 @@ multiplierOf w e = fractionAt (w .mult-num) (w .mult-den) (e .0)
 -- ---- what a call is lent: as a `requires` sees it, and as an `ensures` does
 
 abbrev pub sheetNow : (wanted weight : RefT (List ℤ)) (left right : RefT (List ℕ)) (distance : RefT (List ℤ)) → Read
-sheetNow wanted weight left right distance = record { wanted = now wanted; weight = now weight; gaps = lists (now left) (now right) (now distance) }
+sheetNow wanted weight left right distance =
+    record { wanted = now wanted; weight = now weight; gaps = lists (now left) (now right) (now distance) }
 
 abbrev pub sheetLent : (wanted weight : Param ℤ) (left right : Param ℕ) (distance : Param ℤ) → Read
-sheetLent wanted weight left right distance = sheetNow (wanted .entry) (weight .entry) (left .entry) (right .entry) (distance .entry)
+sheetLent wanted weight left right distance =
+    sheetNow (wanted .entry) (weight .entry) (left .entry) (right .entry) (distance .entry)
 
 abbrev pub recordsLent : (wanted weight : Param ℤ) (gaps : Param GapRecord) → Read
-recordsLent wanted weight gaps = record { wanted = now (wanted .entry); weight = now (weight .entry); gaps = records (now (gaps .entry)) }
+recordsLent wanted weight gaps =
+    record { wanted = now (wanted .entry); weight = now (weight .entry); gaps = records (now (gaps .entry)) }
 
-abbrev pub roomNow : (carried : RefT (List ℕ)) (place-num place-den mult-num mult-den : RefT (List ℤ)) (ring : RefT (List ℕ)) → Written
-roomNow carried place-num place-den mult-num mult-den ring =
-    record { place-num = now place-num; place-den = now place-den; mult-num = now mult-num; mult-den = now mult-den; ring = now ring; carried = now carried }
+abbrev pub roomNow :
+    (carried : RefT (List ℕ)) (place-num place-den mult-num mult-den : RefT (List ℤ)) (ring : RefT (List ℕ)) → Written
+roomNow carried place-num place-den mult-num mult-den ring = record {
+  place-num = now place-num;
+  place-den = now place-den;
+  mult-num = now mult-num;
+  mult-den = now mult-den;
+  ring = now ring;
+  carried = now carried;
+}
 
 -- at entry and at exit
-abbrev pub roomLent : (carried : Param ℕ) (place-num place-den mult-num mult-den : Param ℤ) (ring : Param ℕ) → Both Written Written
+abbrev pub roomLent :
+    (carried : Param ℕ) (place-num place-den mult-num mult-den : Param ℤ) (ring : Param ℕ) → Both Written Written
 roomLent carried place-num place-den mult-num mult-den ring = record {
-  entry = roomNow (carried .entry) (place-num .entry) (place-den .entry) (mult-num .entry) (mult-den .entry) (ring .entry);
+  entry =
+      roomNow (carried .entry) (place-num .entry) (place-den .entry)
+      (mult-num .entry) (mult-den .entry) (ring .entry);
   exit = roomNow (carried .exit) (place-num .exit) (place-den .exit) (mult-num .exit) (mult-den .exit) (ring .exit);
 }

@@ -1,12 +1,14 @@
--- The limits and the refusal table (document 01), in the order of its checks. What it decides is 1 to 8; 9 is tied to the absence of a placement in Promise.
+-- The limits and the refusal table (document 01), in the order of its checks.
+-- What it decides is 1 to 8; 9 is tied to the absence of a placement in Promise.
 use Prim.Native.Nat.{ℕ, zero, suc}
 use mathlib.Core.Bool.{Bool, false, cond, not, _||_}
 use lib.Dec.{ltb, eqb}
-use lib.ListN.{length, getD}
-use lib.IntN.{ℤ, pos, negsuc}
+use lib.ListN.{length}
+use lib.IntN.{ℤ, pos, negℤ}
 use lib.Signed.{ltZ}
 use Rattle.sheet_checks.specs.Lent.{Read, Written, LentGaps, lists, records, labelCount, gapCount, recordAt}
-use Rattle.ground.specs.Limits.{distanceMost, gapsMost, labelsMost, wantedMost}
+use Rattle.ground.specs.Entries.{int}
+use Rattle.ground.specs.Limits.{distanceMost, gapsMost, labelsMost, wantedMost, weightLeast, weightMost}
 
 -- what the checks find: a number and its place, or nothing to refuse
 pub data Verdict : Type 0 where
@@ -29,32 +31,36 @@ outside least most z = ltZ z least || ltZ most z
 abbrev pub unequal : ℕ → ℕ → Bool
 unequal a b = not (eqb a b)
 
--- 3 "lists that belong together differ in length: places with weights, the three gap lists, the carried record with the gaps"
+-- 3 "lists that belong together differ in length:
+-- places with weights, the three gap lists, the carried record with the gaps"
 abbrev pub uneven : LentGaps → Bool
 uneven (lists l r g) = unequal (length r) (length l) || unequal (length g) (length l)
 uneven (records gs) = false
 
 abbrev pub ragged : Read → Written → Bool
-ragged r w = unequal (length (r .weight)) (labelCount r) || uneven (r .gaps) || unequal (length (w .carried)) (gapCount r)
+ragged r w =
+    unequal (length (r .weight)) (labelCount r) || uneven (r .gaps) || unequal (length (w .carried)) (gapCount r)
 
 -- 4 "a place or ring buffer below the label count, or a multiplier buffer below the gap count"
 abbrev pub short : Read → Written → Bool
 short r w =
-    ltb (length (w .place-num)) (labelCount r) || ltb (length (w .place-den)) (labelCount r) || ltb (length (w .ring)) (labelCount r)
+    ltb (length (w .place-num)) (labelCount r) || ltb (length (w .place-den)) (labelCount r)
+    || ltb (length (w .ring)) (labelCount r)
     || ltb (length (w .mult-num)) (gapCount r) || ltb (length (w .mult-den)) (gapCount r)
 
 -- 5 to 8, of one label or gap
 abbrev pub offPlate : Read → ℕ → Bool
-offPlate r k = outside (negsuc 199999) (pos wantedMost) (getD (r .wanted) k (pos 0))
+offPlate r k = outside (negℤ (pos wantedMost)) (pos wantedMost) (int (r .wanted) k)
 
 abbrev pub badWeight : Read → ℕ → Bool
-badWeight r k = outside (pos 1) (pos 100) (getD (r .weight) k (pos 0))
+badWeight r k = outside (pos weightLeast) (pos weightMost) (int (r .weight) k)
 
 abbrev pub stranger : Read → ℕ → Bool
-stranger r k = not (ltb (recordAt (r .gaps) k .left) (labelCount r)) || not (ltb (recordAt (r .gaps) k .right) (labelCount r))
+stranger r k =
+    not (ltb (recordAt (r .gaps) k .left) (labelCount r)) || not (ltb (recordAt (r .gaps) k .right) (labelCount r))
 
 abbrev pub badGap : Read → ℕ → Bool
-badGap r k = outside (negsuc 19999) (pos distanceMost) (recordAt (r .gaps) k .distance)
+badGap r k = outside (negℤ (pos distanceMost)) (pos distanceMost) (recordAt (r .gaps) k .distance)
 
 -- "Checks run in this order .. 1 to 9 by number, each over the whole sheet before the next"
 unfoldable pub table : Read → Written → Verdict

@@ -1,7 +1,11 @@
 // The checks of the refusal table, 1 to 8, each over the whole sheet before the next.
 use crate::Checked;
+use ground::limits::DISTANCE_MOST;
 use ground::limits::GAPS;
 use ground::limits::LABELS;
+use ground::limits::WANTED_MOST;
+use ground::limits::WEIGHT_LEAST;
+use ground::limits::WEIGHT_MOST;
 ghost use mathlib.Core.Path.{_≡_};
 ghost use lib.ListN.{length};
 ghost use Rattle.sheet_checks.specs.Checks.{CheckedBy, OutsideBy, StrangerBy, SizedBy, ShortBy, Even, ContentsBy};
@@ -117,11 +121,11 @@ fn contents(
     requires { ⌜ Even (now wanted) (now weight) (now left) (now right) (now distance) ⌝ }
     ensures { λ r. ⌜ ContentsBy (before wanted) (before weight) (before left) (before right) (before distance) r ⌝ }
 {
-    let plate = first_outside(wanted, -200000, 200000, 5);
+    let plate = first_outside(wanted, -WANTED_MOST, WANTED_MOST, 5);
     let Checked::Pass = plate else {
         return plate;
     };
-    let weights = first_outside(weight, 1, 100, 6);
+    let weights = first_outside(weight, WEIGHT_LEAST, WEIGHT_MOST, 6);
     let Checked::Pass = weights else {
         return weights;
     };
@@ -129,7 +133,7 @@ fn contents(
     let Checked::Pass = strangers else {
         return strangers;
     };
-    first_outside(distance, -20000, 20000, 8)
+    first_outside(distance, -DISTANCE_MOST, DISTANCE_MOST, 8)
 }
 
 // All checks of a sheet whose gaps are lent as three lists.

@@ -1,4 +1,5 @@
--- The promise of a run decides every byte that is printed: what it leaves open, the ring and the multipliers, is not printed.
+-- The promise of a run decides every byte that is printed:
+-- what it leaves open, the ring and the multipliers, is not printed.
 use Prim.Native.Nat.{ℕ, _≤_, _<_}
 use mathlib.Core.Path.{_≡_, refl, sym, ap, _∙_}
 use mathlib.Core.List.{List}
@@ -47,7 +48,8 @@ module _ (c : Counts) (l : Lists) (few : c .labels ≤ 48) (known : c .labels �
   room e filled = omega (arith, filled .size)
 
   -- the same answer over the same first places is printed alike
-  alike : one .answer ≡ two .answer → take (c .labels) (one .after .place-num) ≡ take (c .labels) (two .after .place-num) → take (c .labels) (one .after .place-den) ≡ take (c .labels) (two .after .place-den) → p ≡ q
+  alike : one .answer ≡ two .answer → take (c .labels) (one .after .place-num) ≡ take (c .labels) (two .after .place-num)
+      → take (c .labels) (one .after .place-den) ≡ take (c .labels) (two .after .place-den) → p ≡ q
   alike a nums dens = one .listed ∙ rw (a, nums, dens) (sym (two .listed))
 
   both-refused : (number place ring ring′ : ℕ) → one .answer ≡ refusal number place ring → two .answer ≡ refusal number place ring′ → p ≡ q
@@ -58,11 +60,17 @@ module _ (c : Counts) (l : Lists) (few : c .labels ≤ 48) (known : c .labels �
       ∙ sym (ap (λ (x : Answer). listing x (take (c .labels) (two .after .place-num)) (take (c .labels) (two .after .place-den))) b)
       ∙ sym (two .listed)
 
-  both-placed : one .answer ≡ answer.Placed → Accepted (sheetRead c l) (lent c) (one .after) → two .answer ≡ answer.Placed → Accepted (sheetRead c l) (lent c) (two .after) → ((i : Label) → i .0 < labelCount (sheetRead c l) → placeOf (two .after) i ≡ placeOf (one .after) i) → p ≡ q
+  both-placed : one .answer ≡ answer.Placed → Accepted (sheetRead c l) (lent c) (one .after) → two .answer ≡ answer.Placed
+      → Accepted (sheetRead c l) (lent c) (two .after) → ((i : Label) → i .0 < labelCount (sheetRead c l)
+      → placeOf (two .after) i ≡ placeOf (one .after) i) → p ≡ q
   both-placed a first b second same =
       alike (a ∙ sym b)
-      (first-same (c .labels) (one .after .place-num) (two .after .place-num) (room (length-replicate 48 (pos 0)) (first .place-nums)) (room (length-replicate 48 (pos 0)) (second .place-nums)) (λ k h. sym (ap (λ (f : Fraction). f .num) (same (label k) (omega (arith, counted))))))
-      (first-same (c .labels) (one .after .place-den) (two .after .place-den) (room (length-replicate 48 (pos 0)) (first .place-dens)) (room (length-replicate 48 (pos 0)) (second .place-dens)) (λ k h. sym (ap (λ (f : Fraction). f .den) (same (label k) (omega (arith, counted))))))
+      (first-same (c .labels) (one .after .place-num) (two .after .place-num) (room (length-replicate 48 (pos 0)) (first .place-nums))
+      (room (length-replicate 48 (pos 0)) (second .place-nums))
+      (λ k h. sym (ap (λ (f : Fraction). f .num) (same (label k) (omega (arith, counted))))))
+      (first-same (c .labels) (one .after .place-den) (two .after .place-den) (room (length-replicate 48 (pos 0)) (first .place-dens))
+      (room (length-replicate 48 (pos 0)) (second .place-dens))
+      (λ k h. sym (ap (λ (f : Fraction). f .den) (same (label k) (omega (arith, counted))))))
 
   laid-out-same : p ≡ q
   laid-out-same = go (table (sheetRead c l) (lent c)) refl
@@ -84,7 +92,7 @@ module _ (c : Counts) (l : Lists) (few : c .labels ≤ 48) (known : c .labels �
       go (refuse number place) e = both-refused number place 0 0 (refused-by-table (one .promise) number place e .0) (refused-by-table (two .promise) number place e .0)
       go pass e = passed e
 
--- two runs on one text print the same, whatever stood in their buffers
+-- the whole: two runs on one text print the same, whatever stood in their buffers, so a text has one listing
 pub run-same : {text before before′ after after′ : List ℕ} {n n′ : ℕ} → Run text before n after → Run text before′ n′ after′ → take n after ≡ take n′ after′
 run-same {text} {before} {before′} {after} {after′} {n} {n′} one two =
     go (reading text blank .answer) (reading text blank .lists) (small-reading text blank) (one .prints) (two .prints)

@@ -99,6 +99,7 @@ module _ {printed : List ℕ} (laid : LaidOut (countsOf document-sheet) lists-re
   prints : printed ≡ first-record ++ second-record
   prints = laid .listed ∙ rw (known .0, nums, dens) run-listed
 
+-- a run on document 01's text that keeps the promise prints document 01's listing
 pub document-prints : {before after : List ℕ} {n : ℕ} → Run document-text before n after → take n after ≡ first-record ++ second-record
 document-prints {after = after} {n = n} r =
     prints (subst (λ (d : Done). PrintedFor (d .answer) (d .lists) (take n after)) read-so (r .prints))

@@ -23,8 +23,8 @@ use Rattle.layout.specs.Promise.{Promise, ByTable, Accepted}
 use Rattle.text_reading.specs.declared.Counts.{Counts}
 use Rattle.text_reading.specs.declared.Reading.{Reading}
 use Rattle.text_reading.specs.declared.Reading.the-variants.{Sheet, Refused}
-use Rattle.text_reading.specs.Texts.{Lists, reading}
-use Rattle.text_listing.specs.Listing.{listing, refusedRecord}
+use Rattle.text_reading.specs.Texts.{Lists, reading, textMost}
+use Rattle.text_listing.specs.Listing.{listing, refusedRecord, listingRoom}
 use Rattle.text_listing.proofs.Size.{AllFit, length-place-records, length-refused-record}
 use Rattle.sheet_run.specs.Run.{blank, sheetRead, lent, PrintedFor}
 use Rattle.sheet_run.proofs.Refusals.{Small, SmallReading, small-reading, small-answer}
@@ -34,7 +34,7 @@ take-most zero l = omega arith
 take-most (suc n) [] = omega arith
 take-most (suc n) (x ∷ l) = omega (arith, take-most n l)
 
-pub refused-most : (r : Refusal) → Small r → length (refusedRecord r) ≤ 3072
+pub refused-most : (r : Refusal) → Small r → length (refusedRecord r) ≤ listingRoom
 refused-most r s =
     omega
     (arith, length-refused-record r (record { fits = omega (arith, s .0) }) (record { fits = omega (arith, s .1) }))
@@ -49,24 +49,32 @@ first-fit n l small k = go (ltb k n) refl
 
 module _ (r : Read) (w : Written) (after : Written) (n : ℕ) (few : n ≤ 48) (known : n ≤ labelCount r) where
   -- "Every place is over a denominator of at most 4,800 and lies within 1,140,000 of zero"
-  placed-most : Accepted r w after → length (listing answer.Placed (take n (after .place-num)) (take n (after .place-den))) ≤ 3072
+  placed-most : Accepted r w after → length (listing answer.Placed (take n (after .place-num)) (take n (after .place-den))) ≤ listingRoom
   placed-most a =
-      omega
-      (arith, take-most n (after .place-num), length-place-records (length (take n (after .place-num))) (take n (after .place-num)) (take n (after .place-den)) (omega (arith, take-most n (after .place-num))) (first-fit n (after .place-num) (λ k h. omega (arith, a .near (label k) (omega arith), a .den-most (label k) (omega arith)))) (first-fit n (after .place-den) (λ k h. omega (arith, a .den-most (label k) (omega arith)))))
+      omega (
+        arith,
+        take-most n (after .place-num),
+        length-place-records (length (take n (after .place-num))) (take n (after .place-num))
+            (take n (after .place-den)) (omega (arith, take-most n (after .place-num)))
+            (first-fit n (after .place-num) (λ k h. omega (arith, a .near (label k) (omega arith), a .den-most (label k) (omega arith))))
+            (first-fit n (after .place-den) (λ k h. omega (arith, a .den-most (label k) (omega arith)))),
+      )
 
-  answer-most : (a : Answer) → labelCount r ≤ 16384 → gapCount r ≤ 16384 → Promise r w a after → length (listing a (take n (after .place-num)) (take n (after .place-den))) ≤ 3072
+  answer-most : (a : Answer) → labelCount r ≤ textMost → gapCount r ≤ textMost → Promise r w a after → length (listing a (take n (after .place-num)) (take n (after .place-den))) ≤ listingRoom
   answer-most (answer.Refused x) l g p = refused-most x (small-answer r w (answer.Refused x) after l g p)
   answer-most answer.Placed l g p = go (table r w) (p .kept)
     where
       never : {x : Refusal} → answer.Placed ≡ answer.Refused x → ⊥
       never e = let z : _≡_ {A = ℕ} 0 1 = cc in omega arith
 
-      go : (v : Verdict) → ByTable v r w answer.Placed after → length (listing answer.Placed (take n (after .place-num)) (take n (after .place-den))) ≤ 3072
+      go : (v : Verdict) → ByTable v r w answer.Placed after → length (listing answer.Placed (take n (after .place-num)) (take n (after .place-den))) ≤ listingRoom
       go (refuse number place) k = absurd (never (k .0))
       go pass k = ⊎-elim (λ j. placed-most (j .1)) (λ j. absurd (never (j .0))) k
 
 -- the listing of a layout of the sheet that was read
-pub laid-out-most : (c : Counts) (l : Lists) (w : Written) (a : Answer) (after : Written) → c .labels ≤ 48 → c .gaps ≤ 192 → c .labels ≤ length (l .wanted) → Promise (sheetRead c l) w a after → length (listing a (take (c .labels) (after .place-num)) (take (c .labels) (after .place-den))) ≤ 3072
+pub laid-out-most : (c : Counts) (l : Lists) (w : Written) (a : Answer) (after : Written) → c .labels ≤ 48 → c .gaps ≤ 192
+    → c .labels ≤ length (l .wanted) → Promise (sheetRead c l) w a after
+    → length (listing a (take (c .labels) (after .place-num)) (take (c .labels) (after .place-den))) ≤ listingRoom
 laid-out-most c l w a after few gaps known p =
     answer-most (sheetRead c l) w after (c .labels) few
     (omega (arith, length-take-le (c .labels) (l .wanted) known))
@@ -76,9 +84,9 @@ laid-out-most c l w a after few gaps known p =
     p
 
 -- what is printed for any text has at most 3,072 bytes
-pub printed-most : (text printed : List ℕ) → PrintedFor (reading text blank .answer) (reading text blank .lists) printed → length printed ≤ 3072
+pub printed-most : (text printed : List ℕ) → PrintedFor (reading text blank .answer) (reading text blank .lists) printed → length printed ≤ listingRoom
 printed-most text printed h = go (reading text blank .answer) (reading text blank .lists) (small-reading text blank) h
   where
-    go : (r : Reading) (l : Lists) → SmallReading r l → PrintedFor r l printed → length printed ≤ 3072
+    go : (r : Reading) (l : Lists) → SmallReading r l → PrintedFor r l printed → length printed ≤ listingRoom
     go (Refused x) l s e = rw e (refused-most x s)
     go (Sheet c) l s d = rw (d .listed) (laid-out-most c l (lent c) (d .answer) (d .after) (s .0) (s .1) (s .2) (d .promise))

@@ -11,7 +11,7 @@ use Rattle.ground.specs.declared.Refusal.{Refusal}
 use Rattle.ground.specs.declared.Answer.{Answer}
 use Rattle.ground.specs.declared.Answer.the-variants as answer
 use Rattle.text_listing.specs.declared.Listed.the-variants.{Written, Refused}
-use Rattle.text_listing.specs.Listing.{Listing, listing, listedIn}
+use Rattle.text_listing.specs.Listing.{Listing, listing, listedIn, listingRoom}
 use Rattle.sheet_run.specs.Steps.{Printed}
 
 -- the first of some equal entries
@@ -25,7 +25,11 @@ module _ (a : Answer) (nums dens : List ℤ) (b : List ℕ) (few : length nums �
   unfolding listedIn
   whole = go a fits
     where
-      go : (x : Answer) → length (listing x nums dens) ≤ length b → listedIn x nums dens b ≡ record { answer = Written (length (listing x nums dens)); buffer = listing x nums dens ++ drop (length (listing x nums dens)) b }
+      go : (x : Answer) → length (listing x nums dens) ≤ length b
+          → listedIn x nums dens b ≡ record {
+            answer = Written (length (listing x nums dens));
+            buffer = listing x nums dens ++ drop (length (listing x nums dens)) b;
+          }
       go answer.Placed h = rw (le-ltb 48 (length nums) few, eq-eqb (length dens) (length nums) even, le-leb _ _ h)
       go (answer.Refused r) h = rw (le-leb _ _ h)
 
@@ -35,7 +39,7 @@ module _ (a : Answer) (nums dens : List ℤ) (b : List ℕ) (few : length nums �
       let z : _≡_ {A = ℕ} 0 1 = cc in
       omega arith
 
-  pub printed : (n : ℕ) (after : List ℕ) → length b ≡ 3072 → Written n ≡ listedIn a nums dens b .answer → after ≡ listedIn a nums dens b .buffer → Printed (listing a nums dens) b n after
+  pub printed : (n : ℕ) (after : List ℕ) → length b ≡ listingRoom → Written n ≡ listedIn a nums dens b .answer → after ≡ listedIn a nums dens b .buffer → Printed (listing a nums dens) b n after
   printed n after size e laid =
       let k : Written n ≡ Written (length (listing a nums dens)) = e ∙ ap (λ (l : Listing). l .answer) whole in
       let counted : n ≡ length (listing a nums dens) = cc in

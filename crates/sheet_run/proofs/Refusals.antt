@@ -21,11 +21,12 @@ use Rattle.text_reading.specs.declared.Reading.{Reading}
 use Rattle.text_reading.specs.declared.Reading.the-variants.{Sheet, Refused}
 use Rattle.text_rows.specs.Lines.{lines, push, startsWith, lineFeed, carriageReturn}
 use Rattle.text_rows.specs.Taking.{taken}
-use Rattle.text_reading.specs.Texts.{Typed, nothingTyped, add, Outcome, bad-line, sheet, follow, readFrom, outcome, Lists, Done, roomFor, filled, refusedWith, countsOf, settled, judged, reading}
+use Rattle.text_reading.specs.Texts.{Typed, nothingTyped, add, Outcome, bad-line, sheet, follow, readFrom}
+use Rattle.text_reading.specs.Texts.{outcome, Lists, Done, roomFor, filled, refusedWith, countsOf, settled, judged, reading, textMost}
 
 -- a refusal whose number and place are small
 abbrev pub Small : Refusal → Type 0
-Small r = (r .number ≤ 11) × (r .place ≤ 16384)
+Small r = (r .number ≤ 11) × (r .place ≤ textMost)
 
 -- ---- a text
 
@@ -81,31 +82,31 @@ small-settled t b = go (ltb 48 (length (t .labels))) refl (ltb 192 (length (t .g
     go false e false g false = (omega arith, omega arith)
     go false e false g true = (ltb-false 48 (length (t .labels)) e, ltb-false 192 (length (t .gaps)) g, labels-filled t b)
 
-small-judged : (o : Outcome) (b : Lists) → LineBelow 16385 o → SmallDone (judged o b)
+small-judged : (o : Outcome) (b : Lists) → LineBelow (suc textMost) o → SmallDone (judged o b)
 small-judged (bad-line n) b h = (omega arith, omega arith)
 small-judged (sheet t) b h = small-settled t b
 
 pub small-reading : (text : List ℕ) (b : Lists) → SmallReading (reading text b .answer) (reading text b .lists)
 unfolding reading
-small-reading text b = go (ltb 16384 (length text)) refl
+small-reading text b = go (ltb textMost (length text)) refl
   where
-    go : (long : Bool) → ltb 16384 (length text) ≡ long → SmallDone (cond long (refusedWith 11 0 b) (judged (outcome text) b))
+    go : (long : Bool) → ltb textMost (length text) ≡ long → SmallDone (cond long (refusedWith 11 0 b) (judged (outcome text) b))
     go true e = (omega arith, omega arith)
     go false e =
         small-judged (outcome text) b
-        (line-below (lines text) 1 nothingTyped 16385 (omega (arith, lines-most text, ltb-false 16384 (length text) e)))
+        (line-below (lines text) 1 nothingTyped (suc textMost) (omega (arith, lines-most text, ltb-false textMost (length text) e)))
 
 -- ---- a sheet
 
 abbrev SmallVerdict : Verdict → Type 0
-SmallVerdict (refuse number place) = (number ≤ 11) × (place ≤ 16384)
+SmallVerdict (refuse number place) = (number ≤ 11) × (place ≤ textMost)
 SmallVerdict pass = Unit {0}
 
 small-check : (number : ℕ) → number ≤ 11 → (bad : Bool) (later : Verdict) → SmallVerdict later → SmallVerdict (check number bad later)
 small-check number h true later s = (h, omega arith)
 small-check number h false later s = s
 
-small-offender : (number : ℕ) → number ≤ 11 → (n : ℕ) → n ≤ 16384 → (bad : ℕ → Bool) (later : Verdict) → SmallVerdict later → SmallVerdict (offender number n bad later)
+small-offender : (number : ℕ) → number ≤ 11 → (n : ℕ) → n ≤ textMost → (bad : ℕ → Bool) (later : Verdict) → SmallVerdict later → SmallVerdict (offender number n bad later)
 unfolding offender
 small-offender number h zero l bad later s = s
 small-offender number h (suc n) l bad later s = small-offender number h n (omega arith) bad (cond (bad n) (refuse number n) later) (go (bad n))
@@ -114,7 +115,7 @@ small-offender number h (suc n) l bad later s = small-offender number h n (omega
     go true = (h, omega arith)
     go false = s
 
-small-table : (r : Read) (w : Written) → labelCount r ≤ 16384 → gapCount r ≤ 16384 → SmallVerdict (table r w)
+small-table : (r : Read) (w : Written) → labelCount r ≤ textMost → gapCount r ≤ textMost → SmallVerdict (table r w)
 unfolding table
 small-table r w l g =
     small-check 1 (omega arith) (ltb 48 (labelCount r)) _
@@ -131,7 +132,7 @@ SmallAnswer answer.Placed = Unit {0}
 SmallAnswer (answer.Refused r) = Small r
 
 -- a layout call that keeps its promise refuses with a small number and place
-pub small-answer : (r : Read) (w : Written) (a : Answer) (after : Written) → labelCount r ≤ 16384 → gapCount r ≤ 16384 → Promise r w a after → SmallAnswer a
+pub small-answer : (r : Read) (w : Written) (a : Answer) (after : Written) → labelCount r ≤ textMost → gapCount r ≤ textMost → Promise r w a after → SmallAnswer a
 small-answer r w a after l g p = go (table r w) (small-table r w l g) (p .kept)
   where
     go : (v : Verdict) → SmallVerdict v → ByTable v r w a after → SmallAnswer a

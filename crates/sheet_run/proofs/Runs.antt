@@ -13,7 +13,7 @@ use Rattle.text_reading.specs.declared.Reading.{Reading}
 use Rattle.text_reading.specs.declared.Reading.the-variants.{Sheet, Refused}
 use Rattle.text_reading.specs.Texts.{Lists, Done}
 use Rattle.text_reading.specs.Parts.{ReadInto}
-use Rattle.text_listing.specs.Listing.{listing, refusedRecord}
+use Rattle.text_listing.specs.Listing.{listing, refusedRecord, listingRoom}
 use Rattle.sheet_run.specs.Run.{zeros, blank, LaidOut, PrintedFor, Run}
 use Rattle.sheet_run.specs.Steps.{Holds, Answered, Printed, PrintedRead, lentOver}
 use Rattle.sheet_run.proofs.Refusals.{SmallReading, small-reading}
@@ -22,7 +22,7 @@ use Rattle.sheet_run.proofs.Enough.{refused-most, laid-out-most}
 -- ---- the sheet that was read
 
 module _ (c : Counts) (l : Lists) (a : Answer) (nums dens : List ℤ) (given : Answered c l (zeros 48) (zeros 48) a nums dens) where
-  pub answered-most : Holds c l → length (listing a (take (c .labels) nums) (take (c .labels) dens)) ≤ 3072
+  pub answered-most : Holds c l → length (listing a (take (c .labels) nums) (take (c .labels) dens)) ≤ listingRoom
   answered-most h =
       rw (← given .nums-left, ← given .dens-left)
       (laid-out-most c l (lentOver c (zeros 48) (zeros 48)) a (given .after) (h .labels) (h .gaps) (omega (arith, h .labels, h .wanted)) (given .promise))
@@ -39,13 +39,13 @@ module _ (text : List ℕ) (r : Reading) (l : Lists) (into : ReadInto text blank
   small : SmallReading r l
   small = subst (λ (d : Done). SmallReading (d .answer) (d .lists)) (sym into) (small-reading text blank)
 
-  pub refusal-most : (x : Refusal) → r ≡ Refused x → length (refusedRecord x) ≤ 3072
+  pub refusal-most : (x : Refusal) → r ≡ Refused x → length (refusedRecord x) ≤ listingRoom
   refusal-most x e = refused-most x (subst (λ (q : Reading). SmallReading q l) e small)
 
   pub within-limits : (c : Counts) → r ≡ Sheet c → SmallReading (Sheet c) l
   within-limits c e = subst (λ (q : Reading). SmallReading q l) e small
 
-  run : (b : List ℕ) (n : ℕ) (after : List ℕ) → n ≤ 3072 → PrintedFor r l (take n after) → Filled n b after → Run text b n after
+  run : (b : List ℕ) (n : ℕ) (after : List ℕ) → n ≤ listingRoom → PrintedFor r l (take n after) → Filled n b after → Run text b n after
   run b n after within prints rest =
       record { within = within; prints = subst (λ (d : Done). PrintedFor (d .answer) (d .lists) (take n after)) into prints; rest = rest }
 

@@ -12,7 +12,7 @@ use Rattle.text_reading.specs.declared.Counts.{Counts}
 use Rattle.text_reading.specs.declared.Reading.{Reading}
 use Rattle.text_reading.specs.declared.Reading.the-variants.{Sheet, Refused}
 use Rattle.text_reading.specs.Texts.{Lists, reading}
-use Rattle.text_listing.specs.Listing.{listing, refusedRecord}
+use Rattle.text_listing.specs.Listing.{listing, listingRoom, refusedRecord}
 use Rattle.ground.specs.Limits.{gapsMost, labelsMost}
 
 -- so many zeros
@@ -49,6 +49,6 @@ PrintedFor (Sheet c) l printed = LaidOut c l printed
 
 -- the whole of a run: the first n bytes of the buffer are what is printed for the text, and the rest stays
 pub record Run (text before : List ℕ) (n : ℕ) (after : List ℕ) : Type 0 where
-  pub within : n ≤ 3072
+  pub within : n ≤ listingRoom
   pub prints : PrintedFor (reading text blank .answer) (reading text blank .lists) (take n after)
   pub rest : Filled n before after

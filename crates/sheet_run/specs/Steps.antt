@@ -10,6 +10,7 @@ use Rattle.layout.specs.Promise.{Promise}
 use Rattle.ground.specs.Entries.{Filled}
 use Rattle.text_reading.specs.declared.Counts.{Counts}
 use Rattle.text_reading.specs.Texts.{Lists}
+use Rattle.text_listing.specs.Listing.{listingRoom}
 use Rattle.sheet_run.specs.Run.{zeros, sheetRead, LaidOut}
 use Rattle.ground.specs.Limits.{gapsMost, labelsMost}
 
@@ -36,12 +37,12 @@ pub record Answered (c : Counts) (l : Lists) (nums dens : List ℤ) (a : Answer)
 
 -- the first n bytes of the buffer are this text, and the rest stays
 pub record Printed (text before : List ℕ) (n : ℕ) (after : List ℕ) : Type 0 where
-  pub within : n ≤ 3072
+  pub within : n ≤ listingRoom
   pub front : take n after ≡ text
   pub rest : Filled n before after
 
 -- the same of the sheet that was read
 pub record PrintedRead (c : Counts) (l : Lists) (before : List ℕ) (n : ℕ) (after : List ℕ) : Type 0 where
-  pub within : n ≤ 3072
+  pub within : n ≤ listingRoom
   pub front : LaidOut c l (take n after)
   pub rest : Filled n before after

@@ -3,6 +3,7 @@ use ground::Answer;
 use ground::limits::GAPS;
 use ground::limits::LABELS;
 use layout::lists::lay_out;
+use text_listing::LISTING_ROOM;
 use text_listing::Listed;
 use text_listing::listing::write_listing;
 use text_reading::Counts;
@@ -11,7 +12,7 @@ use text_reading::read::read_sheet;
 ghost use mathlib.Core.Path.{_≡_};
 ghost use Prim.Native.Nat.{_≤_};
 ghost use lib.ListN.{length};
-ghost use Rattle.text_listing.specs.Listing.{listing};
+ghost use Rattle.text_listing.specs.Listing.{listing, listingRoom};
 ghost use Rattle.sheet_run.specs.Steps.{Holds, Answered, Printed, PrintedRead};
 ghost use Rattle.sheet_run.specs.Run.{Run};
 ghost use Rattle.ground.specs.Limits.{labelsMost};
@@ -57,10 +58,15 @@ fn lay_out_read(
 }
 
 // Prints an answer with the places of its labels, and tells how many bytes.
-fn print(answer: Answer, place_num: &[i64], place_den: &[i64], out: &mut [u8; 3072]) -> usize
+fn print(
+    answer: Answer,
+    place_num: &[i64],
+    place_den: &[i64],
+    out: &mut [u8; LISTING_ROOM],
+) -> usize
     requires { ⌜ (length (now «place_num») ≤ labelsMost)
         × (length (now «place_den») ≡ length (now «place_num»))
-        × (length (listing answer (now «place_num») (now «place_den»)) ≤ 3072) ⌝ }
+        × (length (listing answer (now «place_num») (now «place_den»)) ≤ listingRoom) ⌝ }
     ensures { λ r. ⌜ Printed (listing answer (before «place_num») (before «place_den»)) (before out) r (after out) ⌝ }
 {
     let Listed::Written(size) = write_listing(answer, place_num, place_den, out) else {
@@ -77,7 +83,7 @@ fn print_read(
     left: &[usize],
     right: &[usize],
     distance: &[i64],
-    out: &mut [u8; 3072],
+    out: &mut [u8; LISTING_ROOM],
 ) -> usize
     requires { let l = listsNow wanted weight left right distance in
         ⌜ Holds counts l ⌝ }
@@ -102,7 +108,7 @@ fn print_read(
 }
 
 // Prints what a station prints for a text to the front of the buffer, and tells how many bytes. Any text may be lent.
-pub fn run_sheet(text: &[u8], out: &mut [u8; 3072]) -> usize
+pub fn run_sheet(text: &[u8], out: &mut [u8; LISTING_ROOM]) -> usize
     ensures { λ r. ⌜ Run (before text) (before out) r (after out) ⌝ }
 {
     let mut wanted = [0i64; LABELS];

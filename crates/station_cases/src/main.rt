@@ -1,6 +1,9 @@
-// Prints the listings of many texts. Each has a line with its name in front and a byte 0, which no sheet has, behind; stdout was worked out apart from this program.
-// Every refusal is there but 3 and 4, which no text can bring about (the lists of a run belong together and have room), and 12, which is rounding's.
+// Prints the listings of many texts. Each has a line with its name in front and a byte 0, which no sheet has, behind;
+// stdout was worked out apart from this program.
+// Every refusal is there but 3 and 4, which no text can bring about (the lists of a run belong together and have
+// room), and 12, which is rounding's.
 use sheet_run::run_sheet;
+use text_listing::LISTING_ROOM;
 ghost use Prim.Native.Nat.{_≤_};
 ghost use lib.ListN.{length};
 ghost use Rattle.ground.specs.Views.{before};
@@ -21,7 +24,7 @@ fn after_name(entry: &[u8]) -> usize
 
 // Prints a text's name and its listing.
 fn show(entry: &[u8]) {
-    let mut out = [0u8; 3072];
+    let mut out = [0u8; LISTING_ROOM];
     let at = after_name(entry);
     io::write_all(1, &entry[..at]);
     let size = run_sheet(&entry[at..], &mut out);

@@ -13,7 +13,8 @@ pub nothing : (a : List ℕ) → Appended a 0 [] a 0
 nothing a = record { ends = refl; within = omega arith; front = refl }
 
 -- one text behind another
-pub then : {a b c : List ℕ} {i j k : ℕ} {s t : List ℕ} → Appended a i s b j → Appended b j t c k → Appended a i (s ++ t) c k
+pub then :
+    {a b c : List ℕ} {i j k : ℕ} {s t : List ℕ} → Appended a i s b j → Appended b j t c k → Appended a i (s ++ t) c k
 then {a} {i = i} {s = s} {t = t} p q = record {
   ends = omega (arith, p .ends, q .ends, length-append s t);
   within = q .within;
@@ -29,7 +30,9 @@ pub stored : (a : List ℕ) (i byte : ℕ) → i < length a → Appended a i (by
 stored a i byte h = record { ends = refl; within = rw length-set (omega arith); front = rw (add-one, take-suc-set) }
 
 -- a word that is copied, with what stands behind it
-pub copied : {a b : List ℕ} {i j : ℕ} (word : List ℕ) → i + length word ≤ length a → j ≡ i + length word → b ≡ take i a ++ word ++ drop (i + length word) a → Appended a i word b j
+pub copied :
+    {a b : List ℕ} {i j : ℕ} (word : List ℕ) → i + length word ≤ length a → j ≡ i + length word → b ≡ take i a ++ word
+    ++ drop (i + length word) a → Appended a i word b j
 copied {a} {b} {i} {j} word h e p = record {
   ends = e;
   within = rw (p, length-append (take i a ++ word) (drop (i + length word) a)) (omega (arith, e, long));

@@ -1,4 +1,4 @@
--- How long a listing can be: 64 bytes for a label, 51 for a refused sheet, 3,072 in all.
+-- How long a listing can be.
 use mathlib.Core.Path.{_≡_, refl}
 use mathlib.Core.Bool.{Bool, true, false, cond, _&&_}
 use mathlib.Core.List.{List}
@@ -7,7 +7,7 @@ use native.Mathlib.Omega.{arith}
 use native.Mathlib.Nat.{div-le-self}
 use lib.Dec.{ltb, leb}
 use borrow.Author.Tests.{leb-true}
-use lib.ListN.{length, getD, length-append}
+use lib.ListN.{length, length-append}
 use lib.IntN.{ℤ, pos, negsuc, natAbs}
 use lib.Signed.{leZ}
 use mir.Syntax.{w64}
@@ -18,8 +18,10 @@ use Rattle.exact.specs.Round.{onSide, nearestMagnitude, roundTiesToAway, within
 use Rattle.algebra.proofs.Quotient.{natAbs-neg}
 use Rattle.ground.specs.declared.Answer.{Answer}
 use Rattle.ground.specs.declared.Answer.the-variants as answer
+use Rattle.ground.specs.Entries.{int}
+use Rattle.ground.specs.Limits.{labelsMost}
 use Rattle.text_rows.specs.Numeral.{decimal, signedDecimal}
-use Rattle.text_listing.specs.Listing.{placeRecord, placeRecords, refusedRecord, listing}
+use Rattle.text_listing.specs.Listing.{placeRoom, refusedRoom, listingRoom, placeRecord, placeRecords, refusedRecord, listing}
 use Rattle.text_rows.proofs.Decimal.{length-decimal, length-signed, length-signed-64}
 
 -- ---- the whole unit
@@ -40,8 +42,18 @@ whole-most : (num den : ℤ) → natAbs (wholeOf (rounded num den)) ≤ 54720000
 unfolding rounded roundTiesToAway withinPlaces
 whole-most num den = go (leZ (pos 1) den) (leZ den (pos 4800)) (leb (natAbs num) 5472000000) refl
   where
-    go : (s t u : Bool) → leb (natAbs num) 5472000000 ≡ u → natAbs (wholeOf (cond (s && t && u) (Whole (roundTiesToAway num den)) (Refused (record { number = 12; place = 0; ring = 0 })))) ≤ 5472000001
-    go true true true e = omega (arith, on-side num (nearestMagnitude (natAbs num) (natAbs den)), near-most (natAbs num) (natAbs den), leb-true (natAbs num) 5472000000 e)
+    go :
+        (s t u : Bool) → leb (natAbs num) 5472000000 ≡ u → natAbs
+        (wholeOf (cond (s && t && u) (Whole (roundTiesToAway num den))
+        (Refused (record { number = 12; place = 0; ring = 0 })))) ≤ 5472000001
+    go true true true e =
+        omega (
+          arith,
+          on-side num (nearestMagnitude (natAbs num) (natAbs den)),
+          near-most (natAbs num) (natAbs
+              den),
+          leb-true (natAbs num) 5472000000 e,
+        )
     go true true false e = omega arith
     go true false u e = omega arith
     go false t u e = omega arith
@@ -55,26 +67,38 @@ length-whole num den = length-signed 9 (wholeOf (rounded num den)) (omega (arith
 pub length-decimal-64 : (n : ℕ) → Fits w64 n → length (decimal n) ≤ 20
 length-decimal-64 n f = length-decimal 19 n (omega (arith, f .fits))
 
-pub length-label : (i : ℕ) → i < 48 → length (decimal i) ≤ 2
+pub length-label : (i : ℕ) → i < labelsMost → length (decimal i) ≤ 2
 length-label i h = length-decimal 1 i (omega arith)
 
-pub length-place-record : (i : ℕ) (num den : ℤ) → i < 48 → SFits w64 num → SFits w64 den → length (placeRecord i num den) ≤ 64
+pub length-place-record :
+    (i : ℕ) (num den : ℤ) → i < labelsMost → SFits w64 num → SFits w64 den → length
+    (placeRecord i num den) ≤ placeRoom
 unfolding placeRecord
 length-place-record i num den h fn fd =
-    simp length-append (omega (arith, length-label i h, length-signed-64 num fn, length-signed-64 den fd, length-whole num den))
+    simp length-append
+    (omega (arith, length-label i h, length-signed-64 num fn, length-signed-64 den fd, length-whole num den))
 
 -- every number of a list is one of 64 bits
 abbrev pub AllFit : List ℤ → Type 0
-AllFit zs = (k : ℕ) → SFits w64 (getD zs k (pos 0))
+AllFit zs = (k : ℕ) → SFits w64 (int zs k)
 
-pub length-place-records : (n : ℕ) (nums dens : List ℤ) → n ≤ 48 → AllFit nums → AllFit dens → length (placeRecords n nums dens) ≤ 64 * n
+pub length-place-records :
+    (n : ℕ) (nums dens : List ℤ) → n ≤ labelsMost → AllFit nums → AllFit dens → length
+    (placeRecords n nums dens) ≤ placeRoom * n
 unfolding placeRecords
 length-place-records zero nums dens h fn fd = omega arith
 length-place-records (suc n) nums dens h fn fd =
-    omega
-    (arith, length-append (placeRecords n nums dens) (placeRecord n (getD nums n (pos 0)) (getD dens n (pos 0))), length-place-records n nums dens (omega arith) fn fd, length-place-record n (getD nums n (pos 0)) (getD dens n (pos 0)) (omega arith) (fn n) (fd n))
+    omega (
+      arith,
+      length-append (placeRecords n nums dens) (placeRecord n (int nums n)
+          (int dens n)),
+      length-place-records n nums dens (omega arith) fn fd,
+      length-place-record n (int nums n)
+          (int dens n) (omega arith) (fn n) (fd n),
+    )
 
-pub length-refused-record : (r : Refusal) → Fits w64 (r .number) → Fits w64 (r .place) → length (refusedRecord r) ≤ 51
+pub length-refused-record :
+    (r : Refusal) → Fits w64 (r .number) → Fits w64 (r .place) → length (refusedRecord r) ≤ refusedRoom
 unfolding refusedRecord
 length-refused-record r fn fp =
     simp length-append (omega (arith, length-decimal-64 (r .number) fn, length-decimal-64 (r .place) fp))
@@ -86,7 +110,9 @@ abbrev pub AnswerFits : Answer → Type 0
 AnswerFits answer.Placed = Unit
 AnswerFits (answer.Refused r) = Fits w64 (r .number) × Fits w64 (r .place)
 
--- no listing of at most 48 labels is longer than 3,072 bytes
-pub listing-most : (a : Answer) (nums dens : List ℤ) → length nums ≤ 48 → AnswerFits a → AllFit nums → AllFit dens → length (listing a nums dens) ≤ 3072
+-- no listing is longer than its room
+pub listing-most :
+    (a : Answer) (nums dens : List ℤ) → length nums ≤ labelsMost → AnswerFits a → AllFit nums → AllFit dens → length
+    (listing a nums dens) ≤ listingRoom
 listing-most answer.Placed nums dens h f fn fd = omega (arith, length-place-records (length nums) nums dens h fn fd)
 listing-most (answer.Refused r) nums dens h f fn fd = omega (arith, length-refused-record r (f .0) (f .1))

@@ -1,35 +1,50 @@
--- The listing (document 01, "Sheet text"): "the word place, label number, numerator, denominator, whole unit", or "refused, number, place"; every record ended by CRLF.
-use Prim.Native.Nat.{ℕ, zero, suc}
+-- The listing (document 01, "Sheet text"): "the word place, label number, numerator, denominator, whole unit",
+-- or "refused, number, place"; every record ended by CRLF.
+use Prim.Native.Nat.{ℕ, zero, suc, _*_}
 use mathlib.Core.Bool.{cond}
-use mathlib.Core.List.{List, [], _∷_, _++_}
+use mathlib.Core.List.{List, [], _++_}
 use lib.Dec.{eqb, ltb, leb}
-use lib.ListN.{length, getD, drop}
-use lib.IntN.{ℤ, pos}
+use lib.ListN.{length, drop}
+use lib.IntN.{ℤ}
 use Rattle.ground.specs.declared.Refusal.{Refusal}
 use Rattle.exact.specs.Round.{rounded, wholeOf}
 use Rattle.ground.specs.declared.Answer.{Answer}
 use Rattle.ground.specs.declared.Answer.the-variants.{Placed, Refused}
 use Rattle.text_listing.specs.declared.Listed.{Listed}
 use Rattle.text_listing.specs.declared.Listed.the-variants as listed
+use Rattle.text_rows.specs.Bytes.{bytes}
 use Rattle.text_rows.specs.Lines.{next, recordEnd}
 use Rattle.text_rows.specs.Numeral.{decimal, signedDecimal}
+use Rattle.ground.specs.Entries.{int}
 use Rattle.ground.specs.Limits.{labelsMost}
+
+-- bytes of a label's record and of a refused record, at most, and of a whole listing
+abbrev pub placeRoom : ℕ
+placeRoom = 64
+
+abbrev pub refusedRoom : ℕ
+refusedRoom = 51
+
+abbrev pub listingRoom : ℕ
+listingRoom = labelsMost * placeRoom
 
 -- the words place and refused
 abbrev pub placeWord : List ℕ
-placeWord = 112 ∷ 108 ∷ 97 ∷ 99 ∷ 101 ∷ []
+placeWord = bytes "place"
 
 abbrev pub refusedWord : List ℕ
-refusedWord = 114 ∷ 101 ∷ 102 ∷ 117 ∷ 115 ∷ 101 ∷ 100 ∷ []
+refusedWord = bytes "refused"
 
 -- the record of a label; a fraction that rounding refuses has whole unit 0
 unfoldable pub placeRecord : ℕ → ℤ → ℤ → List ℕ
-placeRecord i num den = placeWord ++ (next (decimal i) ++ (next (signedDecimal num) ++ (next (signedDecimal den) ++ (next (signedDecimal (wholeOf (rounded num den))) ++ recordEnd))))
+placeRecord i num den =
+    placeWord ++ (next (decimal i) ++ (next (signedDecimal num) ++ (next (signedDecimal den)
+    ++ (next (signedDecimal (wholeOf (rounded num den))) ++ recordEnd))))
 
 -- the records of the first n labels
 unfoldable pub placeRecords : ℕ → List ℤ → List ℤ → List ℕ
 placeRecords zero nums dens = []
-placeRecords (suc n) nums dens = placeRecords n nums dens ++ placeRecord n (getD nums n (pos 0)) (getD dens n (pos 0))
+placeRecords (suc n) nums dens = placeRecords n nums dens ++ placeRecord n (int nums n) (int dens n)
 
 -- "A refused sheet prints only: refused, number, place"
 unfoldable pub refusedRecord : Refusal → List ℕ
@@ -49,13 +64,16 @@ abbrev pub listedAs : Listed → List ℕ → Listing
 listedAs answer b = record { answer = answer; buffer = b }
 
 abbrev pub notListed : ℕ → List ℕ → Listing
-notListed number b = record { answer = listed.Refused (record { number = number; place = 0; ring = 0 }); buffer = b }
+notListed number b = listedAs (listed.Refused (record { number = number; place = 0; ring = 0 })) b
 
 -- a text over the front of a buffer; one that is too short for it is refused with 4 and stays
 abbrev pub laid : List ℕ → List ℕ → Listing
-laid text b = cond (leb (length text) (length b)) (record { answer = listed.Written (length text); buffer = text ++ drop (length text) b }) (notListed 4 b)
+laid text b =
+    cond (leb (length text) (length b))
+    (listedAs (listed.Written (length text)) (text ++ drop (length text) b))
+    (notListed 4 b)
 
--- labels are counted by the numerators: 1 for more than 48, 3 if the denominators are not as many
+-- labels are counted by the numerators: 1 for too many, 3 if the denominators are not as many
 unfoldable pub listedIn : Answer → List ℤ → List ℤ → List ℕ → Listing
 listedIn (Refused r) nums dens b = laid (refusedRecord r) b
 listedIn Placed nums dens b =

@@ -5,7 +5,7 @@ ghost use mathlib.Core.List.{[], _∷_, _++_};
 ghost use Prim.Native.Nat.{_+_, _<_, _≤_};
 ghost use lib.ListN.{length, take, drop};
 ghost use Rattle.text_listing.specs.Appended.{Appended};
-ghost use Rattle.text_rows.specs.Numeral.{decimal, signedDecimal};
+ghost use Rattle.text_rows.specs.Numeral.{digitZero, decimal, signedDecimal};
 ghost use Rattle.text_rows.specs.Lines.{next};
 ghost use Rattle.ground.specs.Views.{after, before};
 
@@ -36,9 +36,9 @@ pub(crate) fn put_word(buf: &mut [u8], at: usize, word: &[u8]) -> usize
 // The digit of a number below ten.
 fn digit(n: u64) -> u8
     requires { ⌜ n < 10 ⌝ }
-    ensures { λ r. ⌜ r ≡ 48 + n ⌝ }
+    ensures { λ r. ⌜ r ≡ digitZero + n ⌝ }
 {
-    (48 + n) as u8
+    b'0' + n as u8
 }
 
 // Puts a number: what is in front of its last digit, then that digit.

@@ -1,11 +1,14 @@
 // The listing of an answer: a record for each label, or the refused record.
+use crate::LISTING_ROOM;
 use crate::Listed;
+use crate::REFUSED_ROOM;
 use crate::digits::put_byte;
 use crate::digits::put_number_field;
 use crate::digits::put_signed_field;
 use crate::digits::put_word;
 use exact::round::round;
 use ground::Answer;
+use ground::Label;
 use ground::Refusal;
 use ground::limits::LABELS;
 ghost use mathlib.Core.Path.{_≡_};
@@ -15,13 +18,14 @@ ghost use Rattle.exact.specs.Round.{rounded, wholeOf};
 ghost use Rattle.ground.specs.declared.Answer.the-variants.{Placed};
 ghost use Rattle.text_listing.specs.Appended.{Appended};
 ghost use Rattle.text_rows.specs.Lines.{recordEnd};
-ghost use Rattle.text_listing.specs.Listing.{placeRecord, placeRecords, refusedRecord, listedAs, laid, listedIn};
+ghost use Rattle.text_listing.specs.Listing.{placeRoom, refusedRoom, listingRoom, laid, listedAs, listedIn};
+ghost use Rattle.text_listing.specs.Listing.{placeRecord, placeRecords, refusedRecord};
 ghost use Rattle.ground.specs.Limits.{labelsMost};
 ghost use Rattle.ground.specs.Views.{after, before};
 
 // Puts the end of a record.
 fn put_end(buf: &mut [u8], at: usize) -> usize
-    requires { ⌜ at + 2 ≤ length (now buf) ⌝ }
+    requires { ⌜ at + length recordEnd ≤ length (now buf) ⌝ }
     ensures { λ r. ⌜ Appended (before buf) at recordEnd (after buf) r ⌝ }
 {
     let end = put_byte(buf, at, b'\r');
@@ -37,12 +41,12 @@ fn whole_unit(num: i64, den: i64) -> i64
 }
 
 // Puts the record of a label.
-fn put_place(buf: &mut [u8], at: usize, label: usize, num: i64, den: i64) -> usize
-    requires { ⌜ (label < labelsMost) × (at + 64 ≤ length (now buf)) ⌝ }
-    ensures { λ r. ⌜ Appended (before buf) at (placeRecord label num den) (after buf) r ⌝ }
+fn put_place(buf: &mut [u8], at: usize, label: Label, num: i64, den: i64) -> usize
+    requires { ⌜ (label .0 < labelsMost) × (at + placeRoom ≤ length (now buf)) ⌝ }
+    ensures { λ r. ⌜ Appended (before buf) at (placeRecord (label .0) num den) (after buf) r ⌝ }
 {
     let word = put_word(buf, at, b"place");
-    let number = put_number_field(buf, word, label as u64);
+    let number = put_number_field(buf, word, label.0 as u64);
     let upper = put_signed_field(buf, number, num);
     let lower = put_signed_field(buf, upper, den);
     let unit = put_signed_field(buf, lower, whole_unit(num, den));
@@ -53,29 +57,29 @@ fn put_place(buf: &mut [u8], at: usize, label: usize, num: i64, den: i64) -> usi
 fn put_places(buf: &mut [u8], place_num: &[i64], place_den: &[i64]) -> usize
     requires { ⌜ (length (now «place_num») ≤ labelsMost)
         × (length (now «place_den») ≡ length (now «place_num»))
-        × (3072 ≤ length (now buf)) ⌝ }
+        × (listingRoom ≤ length (now buf)) ⌝ }
     ensures { λ r.
-        ⌜ Appended (before buf) 0 (placeRecords (length (before «place_num»)) (before «place_num») (before «place_den»))
-        (after buf) r ⌝ }
+        let nums = before «place_num» in
+        let dens = before «place_den» in
+        ⌜ Appended (before buf) 0 (placeRecords (length nums) nums dens) (after buf) r ⌝ }
 {
     let mut at: usize = 0;
     let mut label: usize = 0;
     while label < place_num.len() {
-        at = put_place(buf, at, label, place_num[label], place_den[label]);
+        at = put_place(buf, at, Label(label), place_num[label], place_den[label]);
         label += 1;
     }
     at
 }
 
 // Puts the record of a refused sheet.
-fn put_refused(buf: &mut [u8], number: usize, place: usize) -> usize
-    requires { ⌜ 51 ≤ length (now buf) ⌝ }
-    ensures { λ r.
-        ⌜ Appended (before buf) 0 (refusedRecord (record { number = number; place = place; ring = 0 })) (after buf) r ⌝ }
+fn put_refused(buf: &mut [u8], refusal: Refusal) -> usize
+    requires { ⌜ refusedRoom ≤ length (now buf) ⌝ }
+    ensures { λ r. ⌜ Appended (before buf) 0 (refusedRecord refusal) (after buf) r ⌝ }
 {
     let word = put_word(buf, 0, b"refused");
-    let first = put_number_field(buf, word, number as u64);
-    let second = put_number_field(buf, first, place as u64);
+    let first = put_number_field(buf, word, refusal.number as u64);
+    let second = put_number_field(buf, first, refusal.place as u64);
     put_end(buf, second)
 }
 
@@ -104,7 +108,8 @@ fn lay(text: &[u8], out: &mut [u8]) -> Listed
 // The listing of a placed sheet.
 fn list_places(place_num: &[i64], place_den: &[i64], out: &mut [u8]) -> Listed
     ensures { λ r.
-        ⌜ listedAs r (after out) ≡ listedIn Placed (before «place_num») (before «place_den») (before out) ⌝ }
+        let listed = listedIn Placed (before «place_num») (before «place_den») (before out) in
+        ⌜ listedAs r (after out) ≡ listed ⌝ }
 {
     if LABELS < place_num.len() {
         return refused(1);
@@ -112,7 +117,7 @@ fn list_places(place_num: &[i64], place_den: &[i64], out: &mut [u8]) -> Listed
     if place_den.len() != place_num.len() {
         return refused(3);
     }
-    let mut text = [0u8; 3072];
+    let mut text = [0u8; LISTING_ROOM];
     let end = put_places(&mut text, place_num, place_den);
     lay(&text[..end], out)
 }
@@ -121,8 +126,8 @@ fn list_places(place_num: &[i64], place_den: &[i64], out: &mut [u8]) -> Listed
 fn list_refused(refusal: Refusal, out: &mut [u8]) -> Listed
     ensures { λ r. ⌜ listedAs r (after out) ≡ laid (refusedRecord refusal) (before out) ⌝ }
 {
-    let mut text = [0u8; 51];
-    let end = put_refused(&mut text, refusal.number, refusal.place);
+    let mut text = [0u8; REFUSED_ROOM];
+    let end = put_refused(&mut text, refusal);
     lay(&text[..end], out)
 }
 
@@ -130,8 +135,9 @@ fn list_refused(refusal: Refusal, out: &mut [u8]) -> Listed
 // 1: more than 48 labels. 3: the lists differ in length. 4: the buffer is too short.
 pub fn write_listing(answer: Answer, place_num: &[i64], place_den: &[i64], out: &mut [u8]) -> Listed
     ensures { λ r.
-        ⌜ (r ≡ listedIn answer (before «place_num») (before «place_den») (before out) .answer)
-        × (after out ≡ listedIn answer (before «place_num») (before «place_den») (before out) .buffer) ⌝ }
+        let listed = listedIn answer (before «place_num») (before «place_den») (before out) in
+        ⌜ (r ≡ listed .answer)
+        × (after out ≡ listed .buffer) ⌝ }
 {
     match answer {
         Answer::Placed => list_places(place_num, place_den, out),

@@ -14,10 +14,13 @@ use Rattle.text_rows.specs.declared.Row.the-variants.{Label, Gap}
 use Rattle.text_reading.specs.Texts.{Typed, Lists, nothingTyped, add, countsOf, front}
 use Rattle.text_reading.specs.Parts.{stored, storedIn, countedWith, Holds, WorkArrays, Held}
 use Rattle.ground.specs.Entries.{over}
+use Rattle.ground.specs.Limits.{gapsMost, labelsMost}
 
 module _ {A : Type 0} where
   -- the copied entries are the list that an array holds
-  pub over-front : {room : ℕ} {a xs : List A} (n : ℕ) (b : List A) → Holds room a xs → length xs ≤ room → n ≡ length xs → over n a b ≡ front xs b
+  pub over-front :
+      {room : ℕ} {a xs : List A} (n : ℕ) (b : List A) → Holds room a xs → length xs ≤ room → n ≡ length xs → over n a
+      b ≡ front xs b
   over-front {xs} n b h most e = rw e (ap (λ (l : List A). l ++ drop (length xs) b) (h .held most))
 
   pub holds-none : (room : ℕ) (a : List A) → length a ≡ room → Holds room a []
@@ -27,7 +30,9 @@ module _ {A : Type 0} where
   snoc-length xs x = length-append xs (x ∷ []) ∙ add-one (length xs)
 
   -- one more entry, stored where there is room
-  pub holds-stored : {room : ℕ} {a xs : List A} (k : ℕ) (x : A) → Holds room a xs → length xs ≡ k → Holds room (stored room k x a) (xs ++ (x ∷ []))
+  pub holds-stored :
+      {room : ℕ} {a xs : List A} (k : ℕ) (x : A) → Holds room a xs → length xs ≡ k → Holds room (stored room k x a)
+      (xs ++ (x ∷ []))
   holds-stored {room} {a} {xs} k x h e = split (ltb k room) refl where
     split : (t : Bool) → ltb k room ≡ t → Holds room (cond t (set a k x) a) (xs ++ (x ∷ []))
     split true q =
@@ -35,24 +40,32 @@ module _ {A : Type 0} where
         let inside : k < length a = omega (arith, h .size) in
         let same : take k a ≡ xs = subst (λ (n : ℕ). take n a ≡ xs) e (h .held (omega arith)) in
         let more : length (xs ++ (x ∷ [])) ≡ suc k = snoc-length xs x ∙ ap suc e in
-        record { size = length-set a k x ∙ h .size; held = λ _. rw more (take-suc-set a k x inside ∙ ap (λ (l : List A). l ++ (x ∷ [])) same) }
-    split false q = record { size = h .size; held = λ (m : length (xs ++ (x ∷ [])) ≤ room). absurd (omega (arith, ltb-false k room q, snoc-length xs x)) }
+        record {
+          size = length-set a k x ∙ h .size;
+          held = λ _. rw more (take-suc-set a k x inside ∙ ap (λ (l : List A). l ++ (x ∷ [])) same);
+        }
+    split false q = record {
+      size = h .size;
+      held = λ (m : length (xs ++ (x ∷ [])) ≤ room). absurd (omega (arith, ltb-false k room q, snoc-length xs x));
+    }
 
 map-snoc : {A B : Type 0} (f : A → B) (xs : List A) (x : A) → map f (xs ++ (x ∷ [])) ≡ map f xs ++ (f x ∷ [])
 map-snoc f [] x = refl
 map-snoc {B = B} f (y ∷ ys) x = ap (λ (l : List B). f y ∷ l) (map-snoc f ys x)
 
-holds-mapped : {A B : Type 0} (f : A → B) {room : ℕ} {a : List B} (xs : List A) (x : A) → Holds room a (map f xs) → Holds room (stored room (length xs) (f x) a) (map f (xs ++ (x ∷ [])))
+holds-mapped :
+    {A B : Type 0} (f : A → B) {room : ℕ} {a : List B} (xs : List A) (x : A) → Holds room a (map f xs) → Holds room
+    (stored room (length xs) (f x) a) (map f (xs ++ (x ∷ [])))
 holds-mapped f xs x h = rw (map-snoc f xs x) (holds-stored (length xs) (f x) h (length-map xs f))
 
 pub held-none : (w : Lists) → WorkArrays w → Held nothingTyped w
 held-none w s =
     record {
-      wanted = holds-none 48 (w .wanted) (s .wanted);
-      weight = holds-none 48 (w .weight) (s .weight);
-      left = holds-none 192 (w .left) (s .left);
-      right = holds-none 192 (w .right) (s .right);
-      distance = holds-none 192 (w .distance) (s .distance);
+      wanted = holds-none labelsMost (w .wanted) (s .wanted);
+      weight = holds-none labelsMost (w .weight) (s .weight);
+      left = holds-none gapsMost (w .left) (s .left);
+      right = holds-none gapsMost (w .right) (s .right);
+      distance = holds-none gapsMost (w .distance) (s .distance);
     }
 
 pub held-stored : (t : Typed) (w : Lists) (row : Row) → Held t w → Held (add t row) (storedIn row (countsOf t) w)
@@ -79,4 +92,10 @@ counted-add t (Gap g) = rw length-append
 
 -- work arrays that hold something have their sizes
 pub sizes-held : (t : Typed) (w : Lists) → Held t w → WorkArrays w
-sizes-held t w h = record { wanted = h .wanted .size; weight = h .weight .size; left = h .left .size; right = h .right .size; distance = h .distance .size }
+sizes-held t w h = record {
+  wanted = h .wanted .size;
+  weight = h .weight .size;
+  left = h .left .size;
+  right = h .right .size;
+  distance = h .distance .size;
+}

@@ -1,29 +1,17 @@
--- Texts read by computation: document 01's own run, and a CR that stands before no LF.
+-- Document 01's own run, read by computation.
 use Prim.Native.Nat.{ℕ}
 use mathlib.Core.Path.{_≡_, refl}
-use mathlib.Core.List.{List, [], _∷_, _++_}
+use mathlib.Core.List.{List, [], _∷_}
 use lib.IntN.{pos}
-use Rattle.text_rows.specs.Lines.{carriageReturn, lines, fields, recordEnd}
+use Rattle.text_rows.specs.Bytes.{bytes}
+use Rattle.text_rows.specs.Lines.{lines, fields}
 use Rattle.text_rows.specs.Numeral.{allDigits, valueOf, number, signed, weightOf, digitsOf}
 use Rattle.text_rows.specs.Taking.{same, rowOf}
-use Rattle.text_reading.specs.Texts.{Typed, sheet, bad-line, readFrom, outcome}
+use Rattle.text_reading.specs.Texts.{Typed, sheet, readFrom, outcome}
 use Rattle.text_reading.specs.Printed.{labelRecord, gapRecord, labelRecords, gapRecords, printed}
 
--- label,0,0,1 and label,1,3,1 and gap,0,1,6
-abbrev pub first-line : List ℕ
-first-line = 108 ∷ 97 ∷ 98 ∷ 101 ∷ 108 ∷ 44 ∷ 48 ∷ 44 ∷ 48 ∷ 44 ∷ 49 ∷ []
-
-abbrev pub second-line : List ℕ
-second-line = 108 ∷ 97 ∷ 98 ∷ 101 ∷ 108 ∷ 44 ∷ 49 ∷ 44 ∷ 51 ∷ 44 ∷ 49 ∷ []
-
-abbrev pub third-line : List ℕ
-third-line = 103 ∷ 97 ∷ 112 ∷ 44 ∷ 48 ∷ 44 ∷ 49 ∷ 44 ∷ 54 ∷ []
-
-abbrev pub ended : List ℕ → List ℕ
-ended line = line ++ recordEnd
-
 abbrev pub document-text : List ℕ
-document-text = ended first-line ++ (ended second-line ++ ended third-line)
+document-text = bytes "label,0,0,1\r\nlabel,1,3,1\r\ngap,0,1,6\r\n"
 
 abbrev pub document-sheet : Typed
 document-sheet = record {
@@ -31,16 +19,12 @@ document-sheet = record {
   gaps = record { left = 0; right = 1; distance = pos 6 } ∷ [];
 }
 
+-- the text is read as its sheet
 pub document-run : outcome document-text ≡ sheet document-sheet
 unfolding lines fields allDigits valueOf number signed weightOf same rowOf readFrom
 document-run = refl
 
--- and it is the text that is written for its sheet
+-- and it is the text that is written for that sheet
 pub document-printed : printed document-sheet ≡ document-text
 unfolding labelRecords gapRecords labelRecord gapRecord digitsOf
 document-printed = refl
-
--- a CR at the end of the input belongs to its field
-pub lone-return : outcome (ended first-line ++ (second-line ++ (carriageReturn ∷ []))) ≡ bad-line 2
-unfolding lines fields allDigits valueOf number signed weightOf same rowOf readFrom
-lone-return = refl

@@ -4,3 +4,4 @@ pub mod Numerals
 pub mod Records
 pub mod Back
 pub mod Examples
+pub mod WrongReadings

@@ -10,7 +10,7 @@ use lib.ListN.{length, getD, length-append}
 use lib.IntN.{ℤ, pos, negsuc, natAbs}
 use lib.Signed.{_≤ℤ_}
 use borrow.Author.Tests.{ltb-true, le-leb, ne-eqb}
-use Rattle.text_rows.specs.Numeral.{digitZero, minus, allDigits, valueOf, number, optionMap, signed, weightOf, digitsOf, decimal, signedDecimal}
+use Rattle.text_rows.specs.Numeral.{digitZero, digitNine, minus, allDigits, valueOf, digitsMost, number, optionMap, signed, weightOf, digitsOf, decimalMost, decimal, signedDecimal}
 use Rattle.text_rows.proofs.DigitLaws.{value-append}
 use Rattle.text_rows.proofs.Decimal.{length-decimal}
 
@@ -20,7 +20,8 @@ abbrev pub Each : {A : Type 0} → (A → Type 0) → List A → Type 0
 Each P [] = Unit {0}
 Each P (x ∷ xs) = P x × Each P xs
 
-pub each-at : {A : Type 0} (P : A → Type 0) (d : A) (xs : List A) → ((k : ℕ) → k < length xs → P (getD xs k d)) → Each P xs
+pub each-at :
+    {A : Type 0} (P : A → Type 0) (d : A) (xs : List A) → ((k : ℕ) → k < length xs → P (getD xs k d)) → Each P xs
 each-at P d [] h = tt
 each-at P d (x ∷ xs) h = (h 0 (omega arith), each-at P d xs (λ k l. h (suc k) (omega arith)))
 
@@ -33,7 +34,7 @@ each-map P Q f [] h = tt
 each-map P Q f (x ∷ xs) h = (f x (h .0), each-map P Q f xs (h .1))
 
 abbrev pub Digit : ℕ → Type 0
-Digit b = (digitZero ≤ b) × (b ≤ 57)
+Digit b = (digitZero ≤ b) × (b ≤ digitNine)
 
 -- ---- the digits of a number
 
@@ -42,7 +43,9 @@ unfolding digitsOf
 digits-only zero n = tt
 digits-only (suc most) n = go (ltb n 10) refl (digits-only most (n / 10))
   where
-    go : (t : Bool) → ltb n 10 ≡ t → Each Digit (digitsOf most (n / 10)) → Each Digit (cond t ((digitZero + n) ∷ []) (digitsOf most (n / 10) ++ ((digitZero + n % 10) ∷ [])))
+    go :
+        (t : Bool) → ltb n 10 ≡ t → Each Digit (digitsOf most (n / 10)) → Each Digit
+        (cond t ((digitZero + n) ∷ []) (digitsOf most (n / 10) ++ ((digitZero + n % 10) ∷ [])))
     go true e before = omega (arith, ltb-true n 10 e)
     go false e before = each-append Digit (digitsOf most (n / 10)) _ before (omega arith)
 
@@ -52,7 +55,9 @@ unfolding digitsOf valueOf
 digits-value zero n h = omega arith
 digits-value (suc most) n h = go (ltb n 10) refl (digits-value most (n / 10) (omega arith))
   where
-    go : (t : Bool) → ltb n 10 ≡ t → valueOf 0 (digitsOf most (n / 10)) ≡ n / 10 → valueOf 0 (cond t ((digitZero + n) ∷ []) (digitsOf most (n / 10) ++ ((digitZero + n % 10) ∷ []))) ≡ n
+    go :
+        (t : Bool) → ltb n 10 ≡ t → valueOf 0 (digitsOf most (n / 10)) ≡ n / 10 → valueOf 0
+        (cond t ((digitZero + n) ∷ []) (digitsOf most (n / 10) ++ ((digitZero + n % 10) ∷ []))) ≡ n
     go true e before = omega arith
     go false e before = rw (value-append, before) (omega arith)
 
@@ -60,24 +65,33 @@ pub digits-least : (most n : ℕ) → 1 ≤ length (digitsOf (suc most) n)
 unfolding digitsOf
 digits-least most n = go (ltb n 10)
   where
-    go : (t : Bool) → 1 ≤ length (cond t ((digitZero + n) ∷ []) (digitsOf most (n / 10) ++ ((digitZero + n % 10) ∷ [])))
+    go :
+        (t : Bool) → 1 ≤ length (cond t ((digitZero + n) ∷ []) (digitsOf most (n / 10)
+        ++ ((digitZero + n % 10) ∷ [])))
     go true = omega arith
     go false = rw length-append (omega arith)
 
 -- a number of 64 bits has at most 20 digits: those that are written tell it
-pub decimal-value : (n : ℕ) → n < 10 ^ 20 → valueOf 0 (decimal n) ≡ n
-decimal-value n h = digits-value 20 n h
+pub decimal-value : (n : ℕ) → n < 10 ^ decimalMost → valueOf 0 (decimal n) ≡ n
+decimal-value n h = digits-value decimalMost n h
 
 -- ---- numbers below 10 ^ 9 are read back
 
 pub all-digits : (f : List ℕ) → Each Digit f → allDigits f ≡ true
 unfolding allDigits
 all-digits [] h = refl
-all-digits (b ∷ bs) h = rw (le-leb digitZero b (h .0 .0), le-leb b 57 (h .0 .1)) (all-digits bs (h .1))
+all-digits (b ∷ bs) h = rw (le-leb digitZero b (h .0 .0), le-leb b digitNine (h .0 .1)) (all-digits bs (h .1))
 
-pub number-back : (n : ℕ) → n < 10 ^ 9 → number (decimal n) ≡ some n
+pub number-back : (n : ℕ) → n < 10 ^ digitsMost → number (decimal n) ≡ some n
 unfolding number
-number-back n h = rw (le-leb 1 _ (digits-least 19 n), le-leb _ 9 (length-decimal 8 n h), all-digits _ (digits-only 20 n), decimal-value n (omega arith))
+number-back n h =
+    rw (
+      le-leb 1 _ (digits-least 19 n),
+      le-leb _ digitsMost (length-decimal 8 n h),
+      all-digits _ (digits-only
+          decimalMost n),
+      decimal-value n (omega arith),
+    )
 
 -- a digit is no minus sign
 signed-digits : (f : List ℕ) → Each Digit f → signed f ≡ optionMap pos (number f)
@@ -85,9 +99,9 @@ unfolding signed number
 signed-digits [] h = refl
 signed-digits (b ∷ bs) h = rw (ne-eqb b minus (omega arith))
 
-pub signed-back : (z : ℤ) → natAbs z < 10 ^ 9 → signed (signedDecimal z) ≡ some z
+pub signed-back : (z : ℤ) → natAbs z < 10 ^ digitsMost → signed (signedDecimal z) ≡ some z
 unfolding signed
-signed-back (pos n) h = rw (signed-digits _ (digits-only 20 n), number-back n h)
+signed-back (pos n) h = rw (signed-digits _ (digits-only decimalMost n), number-back n h)
 signed-back (negsuc n) h = rw (number-back (suc n) h)
 
 -- a number is no blank
@@ -96,15 +110,16 @@ unfolding weightOf
 weight-digits [] h = absurd (omega arith)
 weight-digits (b ∷ bs) h = refl
 
-pub weight-back : (z : ℤ) → pos 0 ≤ℤ z → natAbs z < 10 ^ 9 → weightOf (signedDecimal z) ≡ some z
+pub weight-back : (z : ℤ) → pos 0 ≤ℤ z → natAbs z < 10 ^ digitsMost → weightOf (signedDecimal z) ≡ some z
 weight-back (pos n) l h = rw (weight-digits _ (digits-least 19 n), number-back n h)
 weight-back (negsuc n) l h = absurd (l .le)
 
 -- ---- the bytes of a number
 
 abbrev pub NumeralByte : ℕ → Type 0
-NumeralByte b = (minus ≤ b) × (b ≤ 57)
+NumeralByte b = (minus ≤ b) × (b ≤ digitNine)
 
 pub signed-bytes : (z : ℤ) → Each NumeralByte (signedDecimal z)
-signed-bytes (pos n) = each-map Digit NumeralByte (λ b h. omega arith) (decimal n) (digits-only 20 n)
-signed-bytes (negsuc n) = (omega arith, each-map Digit NumeralByte (λ b h. omega arith) (decimal (suc n)) (digits-only 20 (suc n)))
+signed-bytes (pos n) = each-map Digit NumeralByte (λ b h. omega arith) (decimal n) (digits-only decimalMost n)
+signed-bytes (negsuc n) =
+    (omega arith, each-map Digit NumeralByte (λ b h. omega arith) (decimal (suc n)) (digits-only decimalMost (suc n)))

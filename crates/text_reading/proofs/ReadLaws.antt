@@ -23,10 +23,13 @@ use Rattle.text_rows.specs.declared.lines.Cursor.{Cursor}
 use Rattle.text_rows.specs.declared.lines.Line.{Line}
 use Rattle.text_rows.specs.Lines.{lines}
 use Rattle.text_rows.specs.Taking.{taken}
-use Rattle.text_reading.specs.Texts.{Typed, nothingTyped, add, Outcome, bad-line, sheet, follow, readFrom, outcome, Lists, countsOf, front, filled, roomFor, refusedWith, settled, judged, reading}
+use Rattle.text_reading.specs.Texts.{Typed, nothingTyped, add, Outcome, bad-line, sheet, follow, readFrom, outcome}
+use Rattle.text_reading.specs.Texts.{textMost, Lists, countsOf, front, filled, roomFor, refusedWith, settled, judged, reading}
 use Rattle.text_rows.specs.LineAt.{LineAt}
-use Rattle.text_reading.specs.Parts.{Stored, countedWith, stored, storedIn, WorkArrays, Holds, Held, refusal, ScannedBy, judgedBy, roomOf, overAll, answered, HandedOver, ReadInto}
+use Rattle.text_reading.specs.Parts.{Stored, countedWith, stored, storedIn, WorkArrays, Holds, Held, refusal, ScannedBy}
+use Rattle.text_reading.specs.Parts.{judgedBy, roomy, roomOf, overAll, answered, HandedOver, ReadInto}
 use Rattle.ground.specs.Entries.{over}
+use Rattle.ground.specs.Limits.{gapsMost, labelsMost}
 use Rattle.text_reading.proofs.ArrayLaws.{over-front, held-none, held-stored, counted-add, sizes-held}
 
 -- what holds where a line begins: the records read so far, and that the rest decides the outcome
@@ -40,8 +43,19 @@ pub record Reached (text : List ℕ) (from : Cursor) (c : Counts) (w : Lists) : 
   pub labels-most : c .labels ≤ from .at
   pub gaps-most : c .gaps ≤ from .at
 
-pub reached-start : (text : List ℕ) (w : Lists) → WorkArrays w → Reached text (record { at = 0; line = 1 }) (record { labels = 0; gaps = 0 }) w
-reached-start text w s = record { typed = nothingTyped; same = refl; counts = refl; held = held-none w s; within = omega arith; number = omega arith; labels-most = omega arith; gaps-most = omega arith }
+pub reached-start :
+    (text : List ℕ) (w : Lists) → WorkArrays w → Reached text (record { at = 0; line = 1 })
+    (record { labels = 0; gaps = 0 }) w
+reached-start text w s = record {
+  typed = nothingTyped;
+  same = refl;
+  counts = refl;
+  held = held-none w s;
+  within = omega arith;
+  number = omega arith;
+  labels-most = omega arith;
+  gaps-most = omega arith;
+}
 
 labels-counted : (row : Row) (c : Counts) → countedWith row c .labels ≤ c .labels + 1
 labels-counted (Label r) c = omega arith
@@ -57,16 +71,25 @@ rowAt text at end c = taken (c .labels) (take (end - at) (drop at text))
 
 module _ {text : List ℕ} {from : Cursor} {c : Counts} {w : Lists} {l : Line} (p : Reached text from c w) (f : LineAt text from l) where
   -- what the line decides
-  followed : (k : Taken) → rowAt text (from .at) (l .end) c ≡ k → outcome text ≡ follow k (from .line) (p .typed) (readFrom (lines (drop (l .next .at) text)) (suc (from .line)))
+  followed :
+      (k : Taken) → rowAt text (from .at) (l .end) c ≡ k → outcome text ≡ follow k (from .line) (p .typed)
+      (readFrom (lines (drop (l .next .at) text)) (suc (from .line)))
   unfolding readFrom
   followed k e =
       p .same ∙ (ap (λ (ls : List (List ℕ)). readFrom ls (from .line) (p .typed)) (f .parted)
-      ∙ ap (λ (r : Taken). follow r (from .line) (p .typed) (readFrom (lines (drop (l .next .at) text)) (suc (from .line)))) (ap (λ (n : ℕ). taken n (take (l .end - from .at) (drop (from .at) text))) (sym (ap (λ (x : Counts). x .labels) (p .counts))) ∙ e))
+      ∙ ap (λ (r : Taken). follow r (from .line) (p .typed)
+      (readFrom (lines (drop (l .next .at) text)) (suc (from .line))))
+      (ap (λ (n : ℕ). taken n (take (l .end - from .at) (drop (from .at) text)))
+      (sym (ap (λ (x : Counts). x .labels) (p .counts))) ∙ e))
 
-  pub reached-bad : (r : Reading) → rowAt text (from .at) (l .end) c ≡ Bad → r ≡ refusal 10 (from .line) → ScannedBy (outcome text) r w
+  pub reached-bad :
+      (r : Reading) → rowAt text (from .at) (l .end) c ≡ Bad → r ≡ refusal 10 (from .line) → ScannedBy (outcome text)
+      r w
   reached-bad r e q = subst (λ (o : Outcome). ScannedBy o r w) (sym (followed Bad e)) q
 
-  pub reached-turn : (row : Row) {c′ : Counts} {w′ : Lists} → rowAt text (from .at) (l .end) c ≡ Good row → Stored row c w c′ w′ → Reached text (l .next) c′ w′
+  pub reached-turn :
+      (row : Row) {c′ : Counts} {w′ : Lists} → rowAt text (from .at) (l .end) c ≡ Good row → Stored row c w c′ w′
+      → Reached text (l .next) c′ w′
   reached-turn row {c′} {w′} e s =
       let next : l .next .line ≡ suc (from .line) = f .number ∙ add-one (from .line) in
       let counted : c′ ≡ countedWith row c = s .counted in
@@ -74,81 +97,120 @@ module _ {text : List ℕ} {from : Cursor} {c : Counts} {w : Lists} {l : Line} (
         typed = add (p .typed) row;
         same = rw next (followed (Good row) e);
         counts = s .counted ∙ (ap (countedWith row) (p .counts) ∙ counted-add (p .typed) row);
-        held = subst (Held (add (p .typed) row)) (sym (s .arrays ∙ ap (λ (x : Counts). storedIn row x w) (p .counts))) (held-stored (p .typed) w row (p .held));
+        held =
+            subst (Held (add (p .typed) row)) (sym (s .arrays ∙ ap (λ (x : Counts). storedIn row x w) (p .counts)))
+            (held-stored (p .typed) w row (p .held));
         within = f .rest;
         number = omega (arith, f .on, p .number);
         labels-most = rw counted (omega (arith, labels-counted row c, p .labels-most, f .on));
         gaps-most = rw counted (omega (arith, gaps-counted row c, p .gaps-most, f .on));
       }
 
-pub reached-end : {text : List ℕ} {from : Cursor} {c : Counts} {w : Lists} → Reached text from c w → length text ≤ from .at → ScannedBy (outcome text) (Sheet c) w
+pub reached-end :
+    {text : List ℕ} {from : Cursor} {c : Counts} {w : Lists} → Reached text from c w → length text ≤ from .at
+    → ScannedBy (outcome text) (Sheet c) w
 unfolding lines readFrom
 reached-end {text} {from} {c} {w} p h =
     let none : drop (from .at) text ≡ [] = drop-of-length-le text h in
-    let ended : outcome text ≡ sheet (p .typed) = p .same ∙ ap (λ (s : List ℕ). readFrom (lines s) (from .line) (p .typed)) none in
+    let ended : outcome text ≡ sheet (p .typed) = p .same
+    ∙ ap (λ (s : List ℕ). readFrom (lines s) (from .line) (p .typed)) none in
     subst (λ (o : Outcome). ScannedBy o (Sheet c) w) (sym ended) (ap Sheet (p .counts), p .held)
 
-pub same-lists : {x y : Lists} → x .wanted ≡ y .wanted → x .weight ≡ y .weight → x .left ≡ y .left → x .right ≡ y .right → x .distance ≡ y .distance → x ≡ y
+pub same-lists :
+    {x y : Lists} → x .wanted ≡ y .wanted → x .weight ≡ y .weight → x .left ≡ y .left → x .right ≡ y .right → x
+    .distance ≡ y .distance → x ≡ y
 same-lists p q r s t i = record { wanted = p i; weight = q i; left = r i; right = s i; distance = t i }
 
-full : {A B : Type 0} (f : A → B) (xs : List A) {room : ℕ} {a : List B} (b : List B) → Holds room a (map f xs) → length xs ≤ room → over (length xs) a b ≡ front (map f xs) b
+full :
+    {A B : Type 0} (f : A → B) (xs : List A) {room : ℕ} {a : List B} (b : List B) → Holds room a (map f xs) → length
+    xs ≤ room → over (length xs) a b ≡ front (map f xs) b
 full f xs b h most = over-front (length xs) b h (omega (arith, length-map xs f)) (sym (length-map xs f))
 
 -- what is handed over from arrays that hold the labels and gaps
-held-full : (t : Typed) (w b : Lists) → Held t w → length (t .labels) ≤ 48 → length (t .gaps) ≤ 192 → overAll (countsOf t) w b ≡ filled t b
+held-full :
+    (t : Typed) (w b : Lists) → Held t w → length (t .labels) ≤ labelsMost → length (t .gaps) ≤ gapsMost → overAll
+    (countsOf t) w b ≡ filled t b
 unfolding filled
 held-full t w b h labels gaps =
-    same-lists (full (λ r. r .wanted) (t .labels) (b .wanted) (h .wanted) labels) (full (λ r. r .weight) (t .labels) (b .weight) (h .weight) labels) (full (λ g. g .left) (t .gaps) (b .left) (h .left) gaps) (full (λ g. g .right) (t .gaps) (b .right) (h .right) gaps) (full (λ g. g .distance) (t .gaps) (b .distance) (h .distance) gaps)
+    same-lists (full (λ r. r .wanted) (t .labels) (b .wanted) (h .wanted) labels)
+    (full (λ r. r .weight) (t .labels) (b .weight) (h .weight) labels)
+    (full (λ g. g .left) (t .gaps) (b .left) (h .left) gaps)
+    (full (λ g. g .right) (t .gaps) (b .right) (h .right) gaps)
+    (full (λ g. g .distance) (t .gaps) (b .distance) (h .distance) gaps)
 
 -- 1, 2 and 4 by the counts are those of the text, and what is handed over fills the lists
 pub handed : (t : Typed) (w b : Lists) → Held t w → answered (judgedBy (countsOf t) (roomOf b)) w b ≡ settled t b
 unfolding judgedBy roomFor
-handed t w b h = split (ltb 48 (length (t .labels))) refl (ltb 192 (length (t .gaps))) refl (roomFor t b) where
-  split :
-      (p : Bool) → ltb 48 (length (t .labels)) ≡ p → (q : Bool) → ltb 192 (length (t .gaps)) ≡ q → (r : Bool) →
-      answered (cond p (refusal 1 0) (cond q (refusal 2 0) (cond r (Sheet (countsOf t)) (refusal 4 0)))) w b
-      ≡ cond p (refusedWith 1 0 b) (cond q (refusedWith 2 0 b) (cond r (record { answer = Sheet (countsOf t); lists = filled t b }) (refusedWith 4 0 b)))
-  split true e q g r = refl
-  split false e true g r = refl
-  split false e false g false = refl
-  split false e false g true = ap (λ (l : Lists). record { answer = Sheet (countsOf t); lists = l }) (held-full t w b h (ltb-false 48 _ e) (ltb-false 192 _ g))
+handed t w b h =
+    split (ltb labelsMost (length (t .labels))) refl (ltb gapsMost (length (t .gaps))) refl (roomFor t b) where
+      split :
+          (p : Bool) → ltb labelsMost (length (t .labels)) ≡ p → (q : Bool) → ltb gapsMost (length (t .gaps)) ≡ q
+          → (r : Bool) →
+          answered (cond p (refusal 1 0) (cond q (refusal 2 0) (cond r (Sheet (countsOf t)) (refusal 4 0)))) w b
+          ≡ cond p (refusedWith 1 0 b) (cond q (refusedWith 2 0 b) (cond r (record {
+            answer =
+                Sheet (countsOf t);
+            lists = filled t b;
+          }) (refusedWith 4 0 b)))
+      split true e q g r = refl
+      split false e true g r = refl
+      split false e false g false = refl
+      split false e false g true =
+          ap (λ (l : Lists). record { answer = Sheet (countsOf t); lists = l })
+          (held-full t w b h (ltb-false labelsMost _ e) (ltb-false gapsMost _ g))
 
 -- 11 before everything
-pub long-text : (text : List ℕ) (b : Lists) (r : Reading) → 16384 < length text → r ≡ refusal 11 0 → ReadInto text b r b
+pub long-text :
+    (text : List ℕ) (b : Lists) (r : Reading) → textMost < length text → r ≡ refusal 11 0 → ReadInto text b r b
 unfolding reading
-long-text text b r h e = rw (e, lt-ltb 16384 (length text) h)
+long-text text b r h e = rw (e, lt-ltb textMost (length text) h)
 
-short-text : (text : List ℕ) (b : Lists) → length text ≤ 16384 → reading text b ≡ judged (outcome text) b
+pub short-text : (text : List ℕ) (b : Lists) → length text ≤ textMost → reading text b ≡ judged (outcome text) b
 unfolding reading
-short-text text b h = rw (le-ltb 16384 (length text) h)
+short-text text b h = rw (le-ltb textMost (length text) h)
 
 -- a bad line leaves the lists
-bad-read : (o : Outcome) (found : Reading) (w b : Lists) (r : Refusal) → ScannedBy o found w → found ≡ Refused r → record { answer = found; lists = b } ≡ judged o b
+bad-read :
+    (o : Outcome) (found : Reading) (w b : Lists) (r : Refusal) → ScannedBy o found w → found ≡ Refused r
+    → record { answer = found; lists = b } ≡ judged o b
 bad-read (bad-line n) found w b r s e = ap (λ (x : Reading). record { answer = x; lists = b }) s
 bad-read (sheet t) found w b r s e = let z : _≡_ {A = ℕ} 0 1 = cc (s .0) in absurd (omega arith)
 
-sheet-read : (o : Outcome) (found : Reading) (w b : Lists) (c : Counts) → ScannedBy o found w → found ≡ Sheet c → answered (judgedBy c (roomOf b)) w b ≡ judged o b
+sheet-read :
+    (o : Outcome) (found : Reading) (w b : Lists) (c : Counts) → ScannedBy o found w → found ≡ Sheet c → answered
+    (judgedBy c (roomOf b)) w b ≡ judged o b
 sheet-read (bad-line n) found w b c s e = let z : _≡_ {A = ℕ} 0 1 = cc in absurd (omega arith)
 sheet-read (sheet t) found w b c s e = let q : c ≡ countsOf t = cc (s .0) in rw q (handed t w b (s .1))
 
-module _ (text : List ℕ) (found : Reading) (w b : Lists) (h : length text ≤ 16384) (s : ScannedBy (outcome text) found w) where
+module _ (text : List ℕ) (found : Reading) (w b : Lists) (h : length text ≤ textMost) (s : ScannedBy (outcome text) found w) where
   pub read-bad : (r : Refusal) → found ≡ Refused r → ReadInto text b found b
   read-bad r e = bad-read (outcome text) found w b r s e ∙ sym (short-text text b h)
 
-  pub read-sheet : (c : Counts) (r : Reading) (after : Lists) → found ≡ Sheet c → HandedOver c w b r after → ReadInto text b r after
+  pub read-sheet :
+      (c : Counts) (r : Reading) (after : Lists) → found ≡ Sheet c → HandedOver c w b r after → ReadInto text b r
+      after
   read-sheet c r after e o = o ∙ (sheet-read (outcome text) found w b c s e ∙ sym (short-text text b h))
 
 -- a record stored, from what is stored in each array
-pub stored-label : (row : Row) (l : LabelRow) (c : Counts) (w : Lists) (wanted weight : List ℤ) → row ≡ Label l → wanted ≡ stored 48 (c .labels) (l .wanted) (w .wanted) → weight ≡ stored 48 (c .labels) (l .weight) (w .weight) → Stored row c w (record { labels = c .labels + 1; gaps = c .gaps }) (record { wanted = wanted; weight = weight; left = w .left; right = w .right; distance = w .distance })
+pub stored-label :
+    (row : Row) (l : LabelRow) (c : Counts) (w : Lists) (wanted weight : List ℤ) → row ≡ Label l → wanted ≡ stored
+    labelsMost (c .labels) (l .wanted) (w .wanted) → weight ≡ stored labelsMost (c .labels) (l .weight) (w .weight)
+    → Stored row c w (record { labels = c .labels + 1; gaps = c .gaps })
+    (record { wanted = wanted; weight = weight; left = w .left; right = w .right; distance = w .distance })
 stored-label row l c w wanted weight e p q = rw (e, p, q) (record { counted = refl; arrays = refl })
 
-pub stored-gap : (row : Row) (g : GapRecord) (c : Counts) (w : Lists) (left right : List ℕ) (distance : List ℤ) → row ≡ Gap g → left ≡ stored 192 (c .gaps) (g .left) (w .left) → right ≡ stored 192 (c .gaps) (g .right) (w .right) → distance ≡ stored 192 (c .gaps) (g .distance) (w .distance) → Stored row c w (record { labels = c .labels; gaps = c .gaps + 1 }) (record { wanted = w .wanted; weight = w .weight; left = left; right = right; distance = distance })
+pub stored-gap :
+    (row : Row) (g : GapRecord) (c : Counts) (w : Lists) (left right : List ℕ) (distance : List ℤ) → row ≡ Gap g
+    → left ≡ stored gapsMost (c .gaps) (g .left) (w .left) → right ≡ stored gapsMost (c .gaps) (g .right) (w .right)
+    → distance ≡ stored gapsMost (c .gaps) (g .distance) (w .distance) → Stored row c w
+    (record { labels = c .labels; gaps = c .gaps + 1 })
+    (record { wanted = w .wanted; weight = w .weight; left = left; right = right; distance = distance })
 stored-gap row g c w left right distance e p q r = rw (e, p, q, r) (record { counted = refl; arrays = refl })
 
 -- counts that pass 1, 2 and 4
 pub record Fitting (c : Counts) (b : Lists) : Type 0 where
-  pub labels : c .labels ≤ 48
-  pub gaps : c .gaps ≤ 192
+  pub labels : c .labels ≤ labelsMost
+  pub gaps : c .gaps ≤ gapsMost
   pub wanted : c .labels ≤ length (b .wanted)
   pub weight : c .labels ≤ length (b .weight)
   pub left : c .gaps ≤ length (b .left)
@@ -156,7 +218,9 @@ pub record Fitting (c : Counts) (b : Lists) : Type 0 where
   pub distance : c .gaps ≤ length (b .distance)
 
 -- a test of five parts that passes
-five : (p q r s t : Bool) → (p && q && r && s && t) ≡ true → (p ≡ true) × (q ≡ true) × (r ≡ true) × (s ≡ true) × (t ≡ true)
+five :
+    (p q r s t : Bool) → (p && q && r && s && t) ≡ true → (p ≡ true) × (q ≡ true) × (r ≡ true) × (s ≡ true)
+    × (t ≡ true)
 five true true true true true h = (refl, refl, refl, refl, refl)
 five true true true true false h = absurd (true≢false (sym h))
 five true true true false t h = absurd (true≢false (sym h))
@@ -167,42 +231,47 @@ five false q r s t h = absurd (true≢false (sym h))
 never-sheet : (x : Refusal) (n : Counts) → Refused x ≡ Sheet n → ⊥
 never-sheet x n h = let z : _≡_ {A = ℕ} 0 1 = cc in omega arith
 
-abbrev roomy : Counts → Lists → Bool
-roomy c b = leb (c .labels) (length (b .wanted)) && leb (c .labels) (length (b .weight)) && leb (c .gaps) (length (b .left)) && leb (c .gaps) (length (b .right)) && leb (c .gaps) (length (b .distance))
-
 -- the answer is a sheet only if the counts pass
 fitting-counts : (c : Counts) (b : Lists) (n : Counts) → judgedBy c (roomOf b) ≡ Sheet n → Fitting n b
 unfolding judgedBy
-fitting-counts c b n = split (ltb 48 (c .labels)) refl (ltb 192 (c .gaps)) refl (roomy c b) refl where
-  split : (p : Bool) → ltb 48 (c .labels) ≡ p → (q : Bool) → ltb 192 (c .gaps) ≡ q → (r : Bool) → roomy c b ≡ r → cond p (refusal 1 0) (cond q (refusal 2 0) (cond r (Sheet c) (refusal 4 0))) ≡ Sheet n → Fitting n b
-  split true e q g r f h = absurd (never-sheet _ n h)
-  split false e true g r f h = absurd (never-sheet _ n h)
-  split false e false g false f h = absurd (never-sheet _ n h)
-  split false e false g true f h =
-      let k : n ≡ c = cc in
-      let a = five (leb (c .labels) (length (b .wanted))) (leb (c .labels) (length (b .weight))) (leb (c .gaps) (length (b .left))) (leb (c .gaps) (length (b .right))) (leb (c .gaps) (length (b .distance))) f in
-      rw k
-      (record {
-        labels = ltb-false 48 _ e;
-        gaps = ltb-false 192 _ g;
-        wanted = leb-true _ _ (a .0);
-        weight = leb-true _ _ (a .1);
-        left = leb-true _ _ (a .2);
-        right = leb-true _ _ (a .3);
-        distance = leb-true _ _ (a .4);
-      })
+fitting-counts c b n =
+    split (ltb labelsMost (c .labels)) refl (ltb gapsMost (c .gaps)) refl (roomy c (roomOf b)) refl where
+      split :
+          (p : Bool) → ltb labelsMost (c .labels) ≡ p → (q : Bool) → ltb gapsMost (c .gaps) ≡ q → (r : Bool) → roomy c
+          (roomOf b) ≡ r → cond p (refusal 1 0) (cond q (refusal 2 0) (cond r (Sheet c) (refusal 4 0))) ≡ Sheet n
+          → Fitting n b
+      split true e q g r f h = absurd (never-sheet _ n h)
+      split false e true g r f h = absurd (never-sheet _ n h)
+      split false e false g false f h = absurd (never-sheet _ n h)
+      split false e false g true f h =
+          let k : n ≡ c = cc in
+          let a = five (leb (c .labels) (length (b .wanted))) (leb (c .labels) (length (b .weight)))
+          (leb (c .gaps) (length (b .left))) (leb (c .gaps) (length (b .right))) (leb (c .gaps) (length (b .distance))) f
+          in
+          rw k
+          (record {
+            labels = ltb-false labelsMost _ e;
+            gaps = ltb-false gapsMost _ g;
+            wanted = leb-true _ _ (a .0);
+            weight = leb-true _ _ (a .1);
+            left = leb-true _ _ (a .2);
+            right = leb-true _ _ (a .3);
+            distance = leb-true _ _ (a .4);
+          })
 
 module _ (c : Counts) (b : Lists) (r : Reading) (j : r ≡ judgedBy c (roomOf b)) where
   pub handed-refused : (w : Lists) (x : Refusal) → r ≡ Refused x → HandedOver c w b r b
   handed-refused w x e = rw (← j, e)
 
-  pub handed-sheet : (w after : Lists) (n : Counts) → r ≡ Sheet n → after ≡ overAll n w b → HandedOver c w b (Sheet n) after
+  pub handed-sheet :
+      (w after : Lists) (n : Counts) → r ≡ Sheet n → after ≡ overAll n w b → HandedOver c w b (Sheet n) after
   handed-sheet w after n e o = rw (← j, e, o)
 
   pub fitting : (n : Counts) → r ≡ Sheet n → Fitting n b
   fitting n e = fitting-counts c b n (sym j ∙ e)
 
 -- the work arrays of a text without a bad line keep their sizes
-pub scanned-sizes : (o : Outcome) (found : Reading) (w : Lists) (c : Counts) → ScannedBy o found w → found ≡ Sheet c → WorkArrays w
+pub scanned-sizes :
+    (o : Outcome) (found : Reading) (w : Lists) (c : Counts) → ScannedBy o found w → found ≡ Sheet c → WorkArrays w
 scanned-sizes (bad-line n) found w c s e = absurd (never-sheet _ c (sym s ∙ e))
 scanned-sizes (sheet t) found w c s e = sizes-held t w (s .1)

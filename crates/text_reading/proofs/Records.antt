@@ -12,8 +12,8 @@ use Rattle.ground.specs.declared.GapRecord.{GapRecord}
 use Rattle.text_rows.specs.declared.LabelRow.{LabelRow}
 use Rattle.text_rows.specs.declared.Row.the-variants.{Label, Gap}
 use Rattle.text_rows.specs.declared.Taken.the-variants.{Good}
-use Rattle.text_rows.specs.Lines.{lineFeed, carriageReturn, comma, lines, fields, next, recordEnd}
-use Rattle.text_rows.specs.Numeral.{decimal, signedDecimal}
+use Rattle.text_rows.specs.Lines.{lineFeed, carriageReturn, comma, lines, fields, next, lineOf, recordOf}
+use Rattle.text_rows.specs.Numeral.{digitsMost, decimal, signedDecimal}
 use Rattle.text_rows.specs.Taking.{same, labelWord, gapWord, rowOf, taken}
 use Rattle.text_reading.specs.Printed.{labelRecord, gapRecord}
 use Rattle.text_rows.proofs.Decimal.{length-signed}
@@ -58,15 +58,10 @@ fields-next (b ∷ bs) rest h = rw (ne-eqb b comma (h .0), fields-next bs rest (
 pub lines-next : (l rest : List ℕ) → Each NoEnd l → lines (l ++ (carriageReturn ∷ lineFeed ∷ rest)) ≡ l ∷ lines rest
 unfolding lines
 lines-next [] rest h = refl
-lines-next (b ∷ bs) rest h = rw (ne-eqb b lineFeed (h .0 .1), ne-eqb b carriageReturn (h .0 .0), lines-next bs rest (h .1))
+lines-next (b ∷ bs) rest h =
+    rw (ne-eqb b lineFeed (h .0 .1), ne-eqb b carriageReturn (h .0 .0), lines-next bs rest (h .1))
 
 -- ---- four fields joined
-
-abbrev pub lineOf : (w a b c : List ℕ) → List ℕ
-lineOf w a b c = w ++ (next a ++ (next b ++ next c))
-
-abbrev pub recordOf : (w a b c : List ℕ) → List ℕ
-recordOf w a b c = w ++ (next a ++ (next b ++ (next c ++ recordEnd)))
 
 pub record PlainFields (w a b c : List ℕ) : Type 0 where
   pub word : Each Plain w
@@ -76,7 +71,14 @@ pub record PlainFields (w a b c : List ℕ) : Type 0 where
 
 module _ {w a b c : List ℕ} (p : PlainFields w a b c) where
   pub line-fields : fields (lineOf w a b c) ≡ w ∷ a ∷ b ∷ c ∷ []
-  line-fields = rw (fields-next w _ (no-comma w (p .word)), fields-next a _ (no-comma a (p .first)), fields-next b _ (no-comma b (p .second)), fields-last c (no-comma c (p .third)))
+  line-fields =
+      rw (
+        fields-next w _ (no-comma w (p .word)),
+        fields-next a _ (no-comma a (p .first)),
+        fields-next b _ (no-comma b
+            (p .second)),
+        fields-last c (no-comma c (p .third)),
+      )
 
   line-no-end : Each NoEnd (lineOf w a b c)
   line-no-end =
@@ -96,20 +98,32 @@ module _ {w a b c : List ℕ} (p : PlainFields w a b c) where
 
 -- numbers of at most nine digits, the weight without a sign
 pub record LabelFits (r : LabelRow) : Type 0 where
-  pub wanted : natAbs (r .wanted) < 10 ^ 9
-  pub weight : natAbs (r .weight) < 10 ^ 9
+  pub wanted : natAbs (r .wanted) < 10 ^ digitsMost
+  pub weight : natAbs (r .weight) < 10 ^ digitsMost
   pub unsigned : pos 0 ≤ℤ r .weight
 
 pub record GapFits (g : GapRecord) : Type 0 where
-  pub left : g .left < 10 ^ 9
-  pub right : g .right < 10 ^ 9
-  pub distance : natAbs (g .distance) < 10 ^ 9
+  pub left : g .left < 10 ^ digitsMost
+  pub right : g .right < 10 ^ digitsMost
+  pub distance : natAbs (g .distance) < 10 ^ digitsMost
 
-label-fields : (i : ℕ) (r : LabelRow) → PlainFields labelWord (decimal i) (signedDecimal (r .wanted)) (signedDecimal (r .weight))
-label-fields i r = record { word = omega arith; first = decimal-plain i; second = signed-plain (r .wanted); third = signed-plain (r .weight) }
+label-fields :
+    (i : ℕ) (r : LabelRow) → PlainFields labelWord (decimal i) (signedDecimal (r .wanted)) (signedDecimal (r .weight))
+label-fields i r = record {
+  word = omega arith;
+  first = decimal-plain i;
+  second = signed-plain (r .wanted);
+  third = signed-plain (r .weight);
+}
 
-gap-fields : (g : GapRecord) → PlainFields gapWord (decimal (g .left)) (decimal (g .right)) (signedDecimal (g .distance))
-gap-fields g = record { word = omega arith; first = decimal-plain (g .left); second = decimal-plain (g .right); third = signed-plain (g .distance) }
+gap-fields :
+    (g : GapRecord) → PlainFields gapWord (decimal (g .left)) (decimal (g .right)) (signedDecimal (g .distance))
+gap-fields g = record {
+  word = omega arith;
+  first = decimal-plain (g .left);
+  second = decimal-plain (g .right);
+  third = signed-plain (g .distance);
+}
 
 abbrev pub labelLine : ℕ → LabelRow → List ℕ
 labelLine i r = lineOf labelWord (decimal i) (signedDecimal (r .wanted)) (signedDecimal (r .weight))
@@ -117,7 +131,8 @@ labelLine i r = lineOf labelWord (decimal i) (signedDecimal (r .wanted)) (signed
 abbrev pub gapLine : GapRecord → List ℕ
 gapLine g = lineOf gapWord (decimal (g .left)) (decimal (g .right)) (signedDecimal (g .distance))
 
-pub lines-label : (i : ℕ) (r : LabelRow) (rest : List ℕ) → lines (labelRecord i r ++ rest) ≡ labelLine i r ∷ lines rest
+pub lines-label :
+    (i : ℕ) (r : LabelRow) (rest : List ℕ) → lines (labelRecord i r ++ rest) ≡ labelLine i r ∷ lines rest
 unfolding labelRecord
 lines-label i r rest = lines-record (label-fields i r) rest
 
@@ -126,21 +141,38 @@ unfolding gapRecord
 lines-gap g rest = lines-record (gap-fields g) rest
 
 -- the record of the next label is taken as that label
-pub taken-label : (i : ℕ) (r : LabelRow) → i < 10 ^ 9 → LabelFits r → taken i (labelLine i r) ≡ Good (Label r)
+pub taken-label :
+    (i : ℕ) (r : LabelRow) → i < 10 ^ digitsMost → LabelFits r → taken i (labelLine i r) ≡ Good (Label r)
 unfolding rowOf same
-taken-label i r h f = rw (line-fields (label-fields i r), number-back i h, signed-back (r .wanted) (f .wanted), weight-back (r .weight) (f .unsigned) (f .weight), eq-eqb i i refl)
+taken-label i r h f =
+    rw (
+      line-fields (label-fields i r),
+      number-back i h,
+      signed-back (r .wanted) (f .wanted),
+      weight-back (r
+          .weight) (f .unsigned) (f .weight),
+      eq-eqb i i refl,
+    )
 
 -- a gap's record is taken as that gap, after any labels
 pub taken-gap : (labels : ℕ) (g : GapRecord) → GapFits g → taken labels (gapLine g) ≡ Good (Gap g)
 unfolding rowOf same
-taken-gap labels g f = rw (line-fields (gap-fields g), number-back (g .left) (f .left), number-back (g .right) (f .right), signed-back (g .distance) (f .distance))
+taken-gap labels g f =
+    rw (
+      line-fields (gap-fields g),
+      number-back (g .left) (f .left),
+      number-back (g .right) (f .right),
+      signed-back (g
+          .distance) (f .distance),
+    )
 
 -- ---- at most 40 bytes
 
-record-most : (w a b c : List ℕ) → length w ≤ 5 → length a ≤ 10 → length b ≤ 10 → length c ≤ 10 → length (recordOf w a b c) ≤ 40
+record-most :
+    (w a b c : List ℕ) → length w ≤ 5 → length a ≤ 10 → length b ≤ 10 → length c ≤ 10 → length (recordOf w a b c) ≤ 40
 record-most w a b c hw ha hb hc = simp length-append (omega arith)
 
-pub label-most : (i : ℕ) (r : LabelRow) → i < 10 ^ 9 → LabelFits r → length (labelRecord i r) ≤ 40
+pub label-most : (i : ℕ) (r : LabelRow) → i < 10 ^ digitsMost → LabelFits r → length (labelRecord i r) ≤ 40
 unfolding labelRecord
 label-most i r h f =
     record-most labelWord (decimal i) (signedDecimal (r .wanted)) (signedDecimal (r .weight)) (omega arith)
@@ -150,4 +182,5 @@ pub gap-most : (g : GapRecord) → GapFits g → length (gapRecord g) ≤ 40
 unfolding gapRecord
 gap-most g f =
     record-most gapWord (decimal (g .left)) (decimal (g .right)) (signedDecimal (g .distance)) (omega arith)
-    (length-signed 8 (pos (g .left)) (f .left)) (length-signed 8 (pos (g .right)) (f .right)) (length-signed 8 (g .distance) (f .distance))
+    (length-signed 8 (pos (g .left)) (f .left)) (length-signed 8 (pos (g .right)) (f .right))
+    (length-signed 8 (g .distance) (f .distance))

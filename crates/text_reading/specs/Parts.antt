@@ -1,7 +1,7 @@
 -- What the parts of the reader promise to each other.
 use Prim.Native.Nat.{ℕ, _+_, _≤_}
 use mathlib.Core.Path.{_≡_}
-use mathlib.Core.Bool.{cond, _&&_}
+use mathlib.Core.Bool.{Bool, cond, _&&_}
 use mathlib.Core.List.{List, [], map}
 use lib.Dec.{ltb, leb}
 use lib.ListN.{length, take, set}
@@ -25,8 +25,20 @@ countedWith (Label r) c = record { labels = c .labels + 1; gaps = c .gaps }
 countedWith (Gap g) c = record { labels = c .labels; gaps = c .gaps + 1 }
 
 abbrev pub storedIn : Row → Counts → Lists → Lists
-storedIn (Label r) c w = record { wanted = stored labelsMost (c .labels) (r .wanted) (w .wanted); weight = stored labelsMost (c .labels) (r .weight) (w .weight); left = w .left; right = w .right; distance = w .distance }
-storedIn (Gap g) c w = record { wanted = w .wanted; weight = w .weight; left = stored gapsMost (c .gaps) (g .left) (w .left); right = stored gapsMost (c .gaps) (g .right) (w .right); distance = stored gapsMost (c .gaps) (g .distance) (w .distance) }
+storedIn (Label r) c w = record {
+  wanted = stored labelsMost (c .labels) (r .wanted) (w .wanted);
+  weight = stored labelsMost (c .labels) (r .weight) (w .weight);
+  left = w .left;
+  right = w .right;
+  distance = w .distance;
+}
+storedIn (Gap g) c w = record {
+  wanted = w .wanted;
+  weight = w .weight;
+  left = stored gapsMost (c .gaps) (g .left) (w .left);
+  right = stored gapsMost (c .gaps) (g .right) (w .right);
+  distance = stored gapsMost (c .gaps) (g .distance) (w .distance);
+}
 
 -- the promise of the storing
 pub record Stored (row : Row) (c : Counts) (before : Lists) (r : Counts) (after : Lists) : Type 0 where
@@ -63,20 +75,41 @@ abbrev pub ScannedBy : Outcome → Reading → Lists → Type 0
 ScannedBy (bad-line n) r w = r ≡ refusal 10 n
 ScannedBy (sheet t) r w = (r ≡ Sheet (countsOf t)) × Held t w
 
+-- whether each lent list has an entry for every label or gap
+abbrev pub roomy : Counts → Room → Bool
+roomy c room =
+    leb (c .labels) (room .wanted)
+    && leb (c .labels) (room .weight)
+    && leb (c .gaps) (room .left)
+    && leb (c .gaps) (room .right)
+    && leb (c .gaps) (room .distance)
+
 -- 1, 2, then 4, by the counts
 unfoldable pub judgedBy : Counts → Room → Reading
 judgedBy c room =
     cond (ltb labelsMost (c .labels)) (refusal 1 0)
     (cond (ltb gapsMost (c .gaps)) (refusal 2 0)
-    (cond (leb (c .labels) (room .wanted) && leb (c .labels) (room .weight) && leb (c .gaps) (room .left) && leb (c .gaps) (room .right) && leb (c .gaps) (room .distance)) (Sheet c) (refusal 4 0)))
+    (cond (roomy c room) (Sheet c) (refusal 4 0)))
 
 -- how many entries each lent list has
 abbrev pub roomOf : Lists → Room
-roomOf b = record { wanted = length (b .wanted); weight = length (b .weight); left = length (b .left); right = length (b .right); distance = length (b .distance) }
+roomOf b = record {
+  wanted = length (b .wanted);
+  weight = length (b .weight);
+  left = length (b .left);
+  right = length (b .right);
+  distance = length (b .distance);
+}
 
--- so each list, by the counts
+-- the first entries of each work array over the front of its lent list
 abbrev pub overAll : Counts → (work before : Lists) → Lists
-overAll c w b = record { wanted = over (c .labels) (w .wanted) (b .wanted); weight = over (c .labels) (w .weight) (b .weight); left = over (c .gaps) (w .left) (b .left); right = over (c .gaps) (w .right) (b .right); distance = over (c .gaps) (w .distance) (b .distance) }
+overAll c w b = record {
+  wanted = over (c .labels) (w .wanted) (b .wanted);
+  weight = over (c .labels) (w .weight) (b .weight);
+  left = over (c .gaps) (w .left) (b .left);
+  right = over (c .gaps) (w .right) (b .right);
+  distance = over (c .gaps) (w .distance) (b .distance);
+}
 
 -- an answer with the lists afterwards: a refusal leaves them
 abbrev pub answered : Reading → (work before : Lists) → Done
@@ -85,7 +118,8 @@ answered (Sheet c) w b = record { answer = Sheet c; lists = overAll c w b }
 
 -- what is handed over: nothing where 1, 2 or 4 is met
 abbrev pub HandedOver : Counts → (work before : Lists) → Reading → (after : Lists) → Type 0
-HandedOver c w b r after = _≡_ {A = Done} (record { answer = r; lists = after }) (answered (judgedBy c (roomOf b)) w b)
+HandedOver c w b r after =
+    _≡_ {A = Done} (record { answer = r; lists = after }) (answered (judgedBy c (roomOf b)) w b)
 
 -- the promise of the reading: its answer and the lists afterwards are the definition's
 abbrev pub ReadInto : List ℕ → (before : Lists) → Reading → (after : Lists) → Type 0

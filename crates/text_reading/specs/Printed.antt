@@ -9,16 +9,18 @@ use Rattle.ground.specs.Entries.{noRecord}
 use Rattle.text_rows.specs.declared.LabelRow.{LabelRow}
 use Rattle.text_rows.specs.Numeral.{decimal, signedDecimal}
 use Rattle.text_rows.specs.Taking.{labelWord, gapWord}
-use Rattle.text_rows.specs.Lines.{next, recordEnd}
+use Rattle.text_rows.specs.Lines.{recordOf}
 use Rattle.text_reading.specs.Texts.{Typed}
-use Rattle.ground.specs.Limits.{distanceMost, gapsMost, labelsMost, wantedMost}
+use Rattle.ground.specs.Limits.{distanceMost, gapsMost, labelsMost, wantedMost, weightLeast, weightMost}
 
+-- the record of a label with its number, and of a gap
 unfoldable pub labelRecord : ℕ → LabelRow → List ℕ
-labelRecord i r = labelWord ++ (next (decimal i) ++ (next (signedDecimal (r .wanted)) ++ (next (signedDecimal (r .weight)) ++ recordEnd)))
+labelRecord i r = recordOf labelWord (decimal i) (signedDecimal (r .wanted)) (signedDecimal (r .weight))
 
 unfoldable pub gapRecord : GapRecord → List ℕ
-gapRecord g = gapWord ++ (next (decimal (g .left)) ++ (next (decimal (g .right)) ++ (next (signedDecimal (g .distance)) ++ recordEnd)))
+gapRecord g = recordOf gapWord (decimal (g .left)) (decimal (g .right)) (signedDecimal (g .distance))
 
+-- the records of labels from a number on, and of gaps
 unfoldable pub labelRecords : ℕ → List LabelRow → List ℕ
 labelRecords i [] = []
 labelRecords i (r ∷ rs) = labelRecord i r ++ labelRecords (suc i) rs
@@ -27,6 +29,7 @@ unfoldable pub gapRecords : List GapRecord → List ℕ
 gapRecords [] = []
 gapRecords (g ∷ gs) = gapRecord g ++ gapRecords gs
 
+-- the whole text
 abbrev pub printed : Typed → List ℕ
 printed t = labelRecords 0 (t .labels) ++ gapRecords (t .gaps)
 
@@ -39,8 +42,8 @@ pub record InLimits (t : Typed) : Type 0 where
   pub labels : length (t .labels) ≤ labelsMost
   pub gaps : length (t .gaps) ≤ gapsMost
   pub wanted : (k : ℕ) → k < length (t .labels) → natAbs (getD (t .labels) k noLabel .wanted) ≤ wantedMost
-  pub weight-least : (k : ℕ) → k < length (t .labels) → pos 1 ≤ℤ getD (t .labels) k noLabel .weight
-  pub weight-most : (k : ℕ) → k < length (t .labels) → getD (t .labels) k noLabel .weight ≤ℤ pos 100
+  pub weight-least : (k : ℕ) → k < length (t .labels) → pos weightLeast ≤ℤ getD (t .labels) k noLabel .weight
+  pub weight-most : (k : ℕ) → k < length (t .labels) → getD (t .labels) k noLabel .weight ≤ℤ pos weightMost
   pub left : (k : ℕ) → k < length (t .gaps) → getD (t .gaps) k noRecord .left < length (t .labels)
   pub right : (k : ℕ) → k < length (t .gaps) → getD (t .gaps) k noRecord .right < length (t .labels)
   pub distance : (k : ℕ) → k < length (t .gaps) → natAbs (getD (t .gaps) k noRecord .distance) ≤ distanceMost

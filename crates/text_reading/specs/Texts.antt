@@ -75,7 +75,12 @@ filled t b = record {
 
 -- what is not met by "4 after 1 and 2 if a list is too short"
 unfoldable pub roomFor : Typed → Lists → Bool
-roomFor t b = leb (length (t .labels)) (length (b .wanted)) && leb (length (t .labels)) (length (b .weight)) && leb (length (t .gaps)) (length (b .left)) && leb (length (t .gaps)) (length (b .right)) && leb (length (t .gaps)) (length (b .distance))
+roomFor t b =
+    leb (length (t .labels)) (length (b .wanted))
+    && leb (length (t .labels)) (length (b .weight))
+    && leb (length (t .gaps)) (length (b .left))
+    && leb (length (t .gaps)) (length (b .right))
+    && leb (length (t .gaps)) (length (b .distance))
 
 -- an answer with the lists afterwards
 pub record Done : Type 0 where
@@ -84,7 +89,10 @@ pub record Done : Type 0 where
 
 -- "A refused call writes nothing"
 abbrev pub refusedWith : ℕ → ℕ → Lists → Done
-refusedWith number place b = record { answer = Refused (record { number = number; place = place; ring = 0 }); lists = b }
+refusedWith number place b = record {
+  answer = Refused (record { number = number; place = place; ring = 0 });
+  lists = b;
+}
 
 abbrev pub countsOf : Typed → Counts
 countsOf t = record { labels = length (t .labels); gaps = length (t .gaps) }
@@ -100,16 +108,28 @@ abbrev pub judged : Outcome → Lists → Done
 judged (bad-line n) b = refusedWith 10 n b
 judged (sheet t) b = settled t b
 
+-- "at most 16,384 bytes"
+abbrev pub textMost : ℕ
+textMost = 16384
+
 -- "Checks run in this order: 11, 10, then 1": the whole of a reading
 unfoldable pub reading : List ℕ → Lists → Done
-reading text b = cond (ltb 16384 (length text)) (refusedWith 11 0 b) (judged (outcome text) b)
+reading text b = cond (ltb textMost (length text)) (refusedWith 11 0 b) (judged (outcome text) b)
 
 -- ---- the lent lists: as a `requires` sees them, and at entry and exit as an `ensures` does
 
-abbrev pub listsNow : (wanted weight : RefT (List ℤ)) (left right : RefT (List ℕ)) (distance : RefT (List ℤ)) → Lists
-listsNow wanted weight left right distance = record { wanted = now wanted; weight = now weight; left = now left; right = now right; distance = now distance }
+abbrev pub listsNow :
+    (wanted weight : RefT (List ℤ)) (left right : RefT (List ℕ)) (distance : RefT (List ℤ)) → Lists
+listsNow wanted weight left right distance = record {
+  wanted = now wanted;
+  weight = now weight;
+  left = now left;
+  right = now right;
+  distance = now distance;
+}
 
-abbrev pub listsLent : (wanted weight : Param ℤ) (left right : Param ℕ) (distance : Param ℤ) → Both Lists Lists
+abbrev pub listsLent :
+    (wanted weight : Param ℤ) (left right : Param ℕ) (distance : Param ℤ) → Both Lists Lists
 listsLent wanted weight left right distance = record {
   entry = listsNow (wanted .entry) (weight .entry) (left .entry) (right .entry) (distance .entry);
   exit = listsNow (wanted .exit) (weight .exit) (left .exit) (right .exit) (distance .exit);

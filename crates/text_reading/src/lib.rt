@@ -2,7 +2,10 @@
 use ground::Refusal;
 
 pub mod read;
-pub mod store;
+mod store;
+
+// Bytes of a text, at most.
+pub const TEXT_MOST: usize = 16384;
 
 // How many labels and gaps a text has.
 pub struct Counts {

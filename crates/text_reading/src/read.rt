@@ -1,6 +1,7 @@
 // Reads a text into lent lists.
 use crate::Counts;
 use crate::Reading;
+use crate::TEXT_MOST;
 use crate::store::store;
 use ground::Refusal;
 use ground::copies::copy_indices;
@@ -17,12 +18,12 @@ use text_rows::rows::take_row;
 ghost use mathlib.Core.Path.{_≡_};
 ghost use Prim.Native.Nat.{_≤_};
 ghost use lib.ListN.{length};
-ghost use Rattle.text_reading.specs.Texts.{outcome, listsLent, listsNow};
+ghost use Rattle.text_reading.specs.Texts.{textMost, outcome, listsLent, listsNow};
 ghost use Rattle.text_reading.specs.Parts.{WorkArrays, refusal, ScannedBy, judgedBy, HandedOver, ReadInto};
 ghost use Rattle.ground.specs.Views.{before};
 
 // How many entries each lent list has.
-pub struct Room {
+pub(crate) struct Room {
     pub wanted: usize,
     pub weight: usize,
     pub left: usize,
@@ -51,7 +52,7 @@ fn read_lines(
     distance: &mut GapInts,
 ) -> Reading
     requires { let l = listsNow wanted weight left right distance in
-        ⌜ (length (now text) ≤ 16384)
+        ⌜ (length (now text) ≤ textMost)
         × WorkArrays l ⌝ }
     ensures { λ r.
         let l = listsLent wanted weight left right distance in
@@ -158,7 +159,7 @@ pub fn read_sheet(
         let l = listsLent wanted weight left right distance in
         ⌜ ReadInto (before text) (l .entry) r (l .exit) ⌝ }
 {
-    if 16384 < text.len() {
+    if TEXT_MOST < text.len() {
         return refused(11, 0);
     }
     let mut d = [0i64; LABELS];

@@ -1,6 +1,8 @@
-// The work arrays of a reading, and what is handed over from them.
+// The work arrays of a reading, and the storing of a record.
 use crate::Counts;
+use ground::GapNumber;
 use ground::GapRecord;
+use ground::Label;
 use ground::limits::GAPS;
 use ground::limits::GapIndices;
 use ground::limits::GapInts;
@@ -12,18 +14,19 @@ ghost use mathlib.Core.Path.{_≡_};
 ghost use Prim.Native.Nat.{_<_};
 ghost use Rattle.text_reading.specs.Parts.{Stored, stored};
 ghost use Rattle.ground.specs.Limits.{gapsMost, labelsMost};
-ghost use Rattle.text_reading.specs.Texts.{listsLent};
+ghost use Rattle.text_reading.specs.Texts.{textMost, listsLent};
 ghost use Rattle.ground.specs.Views.{after, before};
 
 // Stores a label that there is room for.
-fn store_label(label: LabelRow, k: usize, wanted: &mut LabelInts, weight: &mut LabelInts)
+fn store_label(row: LabelRow, label: Label, wanted: &mut LabelInts, weight: &mut LabelInts)
     ensures { λ _.
-        ⌜ (after wanted ≡ stored labelsMost k (label .wanted) (before wanted))
-        × (after weight ≡ stored labelsMost k (label .weight) (before weight)) ⌝ }
+        ⌜ (after wanted ≡ stored labelsMost (label .0) (row .wanted) (before wanted))
+        × (after weight ≡ stored labelsMost (label .0) (row .weight) (before weight)) ⌝ }
 {
+    let k = label.0;
     if k < LABELS {
-        let d = label.wanted;
-        let w = label.weight;
+        let d = row.wanted;
+        let w = row.weight;
         wanted[k] = d;
         weight[k] = w;
     }
@@ -31,21 +34,22 @@ fn store_label(label: LabelRow, k: usize, wanted: &mut LabelInts, weight: &mut L
 
 // Stores a gap that there is room for.
 fn store_gap(
-    gap: GapRecord,
-    k: usize,
+    row: GapRecord,
+    gap: GapNumber,
     left: &mut GapIndices,
     right: &mut GapIndices,
     distance: &mut GapInts,
 )
     ensures { λ _.
-        ⌜ (after left ≡ stored gapsMost k (gap .left) (before left))
-        × (after right ≡ stored gapsMost k (gap .right) (before right))
-        × (after distance ≡ stored gapsMost k (gap .distance) (before distance)) ⌝ }
+        ⌜ (after left ≡ stored gapsMost (gap .0) (row .left) (before left))
+        × (after right ≡ stored gapsMost (gap .0) (row .right) (before right))
+        × (after distance ≡ stored gapsMost (gap .0) (row .distance) (before distance)) ⌝ }
 {
+    let k = gap.0;
     if k < GAPS {
-        let u = gap.left;
-        let v = gap.right;
-        let g = gap.distance;
+        let u = row.left;
+        let v = row.right;
+        let g = row.distance;
         left[k] = u;
         right[k] = v;
         distance[k] = g;
@@ -62,7 +66,7 @@ pub(crate) fn store(
     right: &mut GapIndices,
     distance: &mut GapInts,
 ) -> Counts
-    requires { ⌜ (counts .labels < 16384) × (counts .gaps < 16384) ⌝ }
+    requires { ⌜ (counts .labels < textMost) × (counts .gaps < textMost) ⌝ }
     ensures { λ r.
         let l = listsLent wanted weight left right distance in
         ⌜ Stored row counts (l .entry) r (l .exit) ⌝ }
@@ -71,14 +75,14 @@ pub(crate) fn store(
     let gaps = counts.gaps;
     match row {
         Row::Label(label) => {
-            store_label(label, labels, wanted, weight);
+            store_label(label, Label(labels), wanted, weight);
             Counts {
                 labels: labels + 1,
                 gaps,
             }
         }
         Row::Gap(gap) => {
-            store_gap(gap, gaps, left, right, distance);
+            store_gap(gap, GapNumber(gaps), left, right, distance);
             Counts {
                 labels,
                 gaps: gaps + 1,

@@ -74,7 +74,8 @@ unfolding signed number
 signed-plain [] h = refl
 signed-plain (b ∷ bs) h = rw (ne-eqb b minus (h (omega arith)))
 
-pub signed-minus : (f : List ℕ) → 0 < length f → getD f 0 0 ≡ minus → optionMap (λ n. negℤ (pos n)) (number (afterSign f)) ≡ signed f
+pub signed-minus :
+    (f : List ℕ) → 0 < length f → getD f 0 0 ≡ minus → optionMap (λ n. negℤ (pos n)) (number (afterSign f)) ≡ signed f
 unfolding signed
 signed-minus [] l h = absurd (omega arith)
 signed-minus (b ∷ bs) l h = rw (eq-eqb b minus h, take-all (suc (length bs) - 1) bs (omega arith))

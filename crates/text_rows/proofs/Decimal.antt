@@ -14,7 +14,7 @@ use mir.Syntax.{w64}
 use mir.Val.{SFits}
 use mir.ValLaws.{toZ-ofZ}
 use Rattle.algebra.proofs.Quotient.{kept, magnitude-fits}
-use Rattle.text_rows.specs.Numeral.{digitsOf, decimal, signedDecimal, digitZero, minus}
+use Rattle.text_rows.specs.Numeral.{digitsOf, decimalMost, decimal, signedDecimal, digitZero, minus}
 
 -- a tenth of a number below a power of ten
 tenth : (k n : ℕ) → n < 10 ^ suc k → n / 10 < 10 ^ k
@@ -29,7 +29,10 @@ enough (suc k) n h = go (ltb n 10) refl (enough k (n / 10) (tenth (suc k) n h))
     last : List ℕ
     last = (digitZero + n % 10) ∷ []
 
-    go : (t : Bool) → ltb n 10 ≡ t → digitsOf (suc (suc k)) (n / 10) ≡ digitsOf (suc k) (n / 10) → cond t ((digitZero + n) ∷ []) (digitsOf (suc (suc k)) (n / 10) ++ last) ≡ cond t ((digitZero + n) ∷ []) (digitsOf (suc k) (n / 10) ++ last)
+    go :
+        (t : Bool) → ltb n 10 ≡ t → digitsOf (suc (suc k)) (n / 10) ≡ digitsOf (suc k) (n / 10) → cond t
+        ((digitZero + n) ∷ []) (digitsOf (suc (suc k)) (n / 10) ++ last) ≡ cond t ((digitZero + n) ∷ [])
+        (digitsOf (suc k) (n / 10) ++ last)
     go true e more = refl
     go false e more = ap (λ (d : List ℕ). d ++ last) more
 
@@ -37,7 +40,9 @@ digits-below-ten : (most n : ℕ) → n < 10 → (digitZero + n) ∷ [] ≡ digi
 unfolding digitsOf
 digits-below-ten most n h = rw (lt-ltb n 10 h)
 
-digits-by-last : (k n : ℕ) → 10 ≤ n → n < 10 ^ suc (suc k) → digitsOf (suc (suc k)) (n / 10) ++ ((digitZero + n % 10) ∷ []) ≡ digitsOf (suc (suc k)) n
+digits-by-last :
+    (k n : ℕ) → 10 ≤ n → n < 10 ^ suc (suc k) → digitsOf (suc (suc k)) (n / 10) ++ ((digitZero + n % 10) ∷ [])
+    ≡ digitsOf (suc (suc k)) n
 unfolding digitsOf
 digits-by-last k n h f =
     ap (λ (d : List ℕ). d ++ ((digitZero + n % 10) ∷ [])) (enough k (n / 10) (tenth (suc k) n f)) ∙ last-of (suc k)
@@ -63,12 +68,14 @@ length-digits zero k n h = omega arith
 length-digits (suc most) zero n h = rw (lt-ltb n 10 h) (omega arith)
 length-digits (suc most) (suc k) n h = go (ltb n 10) (length-digits most k (n / 10) (tenth (suc k) n h))
   where
-    go : (t : Bool) → length (digitsOf most (n / 10)) ≤ suc k → length (cond t ((digitZero + n) ∷ []) (digitsOf most (n / 10) ++ ((digitZero + n % 10) ∷ []))) ≤ suc (suc k)
+    go :
+        (t : Bool) → length (digitsOf most (n / 10)) ≤ suc k → length
+        (cond t ((digitZero + n) ∷ []) (digitsOf most (n / 10) ++ ((digitZero + n % 10) ∷ []))) ≤ suc (suc k)
     go true less = omega arith
     go false less = omega (arith, length-append (digitsOf most (n / 10)) ((digitZero + n % 10) ∷ []))
 
 pub length-decimal : (k n : ℕ) → n < 10 ^ suc k → length (decimal n) ≤ suc k
-length-decimal k n h = length-digits 20 k n h
+length-decimal k n h = length-digits decimalMost k n h
 
 -- ---- signed numbers
 
@@ -91,4 +98,5 @@ length-signed-64 x f = length-signed 18 x (omega (arith, magnitude-fits x f))
 
 -- as the machine reads it back from its bits
 pub length-signed-kept : (x : ℤ) → SFits w64 x → length (signedDecimal (kept x)) ≤ 20
-length-signed-kept x f = subst (λ (v : ℤ). length (signedDecimal v) ≤ 20) (sym (toZ-ofZ w64 x f)) (length-signed-64 x f)
+length-signed-kept x f =
+    subst (λ (v : ℤ). length (signedDecimal v) ≤ 20) (sym (toZ-ofZ w64 x f)) (length-signed-64 x f)

@@ -11,7 +11,7 @@ use borrow.Author.Tests.{leb-true, lt-leb, le-leb}
 use lib.Dec.{leb}
 use lib.ListN.{length, take, drop, getD}
 use lib.Seq.{take-suc, take-all, split-at, length-take-le}
-use Rattle.text_rows.specs.Numeral.{digitZero, isDigit, allDigits, valueOf, number}
+use Rattle.text_rows.specs.Numeral.{digitZero, digitNine, digitsMost, isDigit, allDigits, valueOf, number}
 
 and-left : (a b : Bool) → (a && b) ≡ true → a ≡ true
 and-left true b h = refl
@@ -41,44 +41,46 @@ value-append n [] ys = refl
 value-append n (b ∷ xs) ys = value-append (10 * n + (b - digitZero)) xs ys
 
 -- the test of a digit
-pub is-digit : (b : ℕ) → 48 ≤ b → b ≤ 57 → isDigit b ≡ true
-is-digit b h l = rw (le-leb digitZero b h, le-leb b 57 l)
+pub is-digit : (b : ℕ) → digitZero ≤ b → b ≤ digitNine → isDigit b ≡ true
+is-digit b h l = rw (le-leb digitZero b h, le-leb b digitNine l)
 
-pub below-no-digit : (b : ℕ) → b < 48 → isDigit b ≡ false
+pub below-no-digit : (b : ℕ) → b < digitZero → isDigit b ≡ false
 below-no-digit b h = rw (lt-leb digitZero b h)
 
-pub above-no-digit : (b : ℕ) → 57 < b → isDigit b ≡ false
-above-no-digit b h = rw (le-leb digitZero b (omega arith), lt-leb b 57 h)
+pub above-no-digit : (b : ℕ) → digitNine < b → isDigit b ≡ false
+above-no-digit b h = rw (le-leb digitZero b (omega arith), lt-leb b digitNine h)
 
-digit-most : (b : ℕ) → isDigit b ≡ true → b ≤ 57
-digit-most b h = leb-true b 57 (and-right (leb digitZero b) (leb b 57) h)
+digit-most : (b : ℕ) → isDigit b ≡ true → b ≤ digitNine
+digit-most b h = leb-true b digitNine (and-right (leb digitZero b) (leb b digitNine) h)
 
 -- every digit after a number below k multiplies the bound by ten
 pub value-below : (xs : List ℕ) (n k : ℕ) → allDigits xs ≡ true → n < k → valueOf n xs < k * 10 ^ length xs
 unfolding valueOf allDigits
 value-below [] n k h l = omega arith
 value-below (b ∷ xs) n k h l =
-    let d : b ≤ 57 = digit-most b (and-left (isDigit b) (allDigits xs) h) in
-    let rest = value-below xs (10 * n + (b - digitZero)) (k * 10) (and-right (isDigit b) (allDigits xs) h) (omega arith) in
+    let d : b ≤ digitNine = digit-most b (and-left (isDigit b) (allDigits xs) h) in
+    let rest = value-below xs (10 * n + (b - digitZero)) (k * 10) (and-right (isDigit b) (allDigits xs) h)
+    (omega arith) in
     rw (pow-succ' 10 (length xs), ← mul-assoc k 10 (10 ^ length xs)) rest
 
 -- so at most nine digits tell less than a thousand millions
-nine-digits : (xs : List ℕ) → allDigits xs ≡ true → length xs ≤ 9 → valueOf 0 xs < 1000000000
+nine-digits : (xs : List ℕ) → allDigits xs ≡ true → length xs ≤ digitsMost → valueOf 0 xs < 1000000000
 nine-digits xs h m =
-    let tens : 10 ^ length xs ≤ 10 ^ 9 = pow-le-pow-right (omega arith) {j = 9} m in
+    let tens : 10 ^ length xs ≤ 10 ^ digitsMost = pow-le-pow-right (omega arith) {j = digitsMost} m in
     omega (arith, value-below xs 0 1 h (omega arith))
 
 pub number-small : (f : List ℕ) (n : ℕ) → number f ≡ some n → n < 1000000000
 unfolding number
-number-small f n e = go (leb 1 (length f) && leb (length f) 9 && allDigits f) refl e
+number-small f n e = go (leb 1 (length f) && leb (length f) digitsMost && allDigits f) refl e
   where
     sized : Bool
-    sized = leb 1 (length f) && leb (length f) 9
+    sized = leb 1 (length f) && leb (length f) digitsMost
 
     go : (t : Bool) → (sized && allDigits f) ≡ t → cond t (some (valueOf 0 f)) none ≡ some n → n < 1000000000
     go true t p =
         let same : valueOf 0 f ≡ n = cc in
-        let most : length f ≤ 9 = leb-true (length f) 9 (and-right (leb 1 (length f)) (leb (length f) 9) (and-left sized (allDigits f) t)) in
+        let most : length f ≤ digitsMost = leb-true (length f) digitsMost
+        (and-right (leb 1 (length f)) (leb (length f) digitsMost) (and-left sized (allDigits f) t)) in
         omega (arith, nine-digits f (and-right sized (allDigits f) t) most)
     go false t p = let z : _≡_ {A = ℕ} 0 1 = cc in absurd (omega arith)
 
@@ -91,12 +93,12 @@ module _ (f : List ℕ) where
   unfolding number
   blank-none e = rw e
 
-  pub long-none : 9 < length f → none ≡ number f
+  pub long-none : digitsMost < length f → none ≡ number f
   unfolding number
-  long-none h = rw (le-leb 1 (length f) (omega arith), lt-leb (length f) 9 h)
+  long-none h = rw (le-leb 1 (length f) (omega arith), lt-leb (length f) digitsMost h)
 
   module _ (i v : ℕ) (told : Digits f i v) where
-    pub told-small : i ≤ length f → i ≤ 9 → v < 1000000000
+    pub told-small : i ≤ length f → i ≤ digitsMost → v < 1000000000
     told-small l m = rw (told .1) (nine-digits (take i f) (told .0) (rw (length-take-le i f l) m))
 
     pub told-more : i < length f → isDigit (getD f i 0) ≡ true → Digits f (i + 1) (10 * v + (getD f i 0 - digitZero))
@@ -110,12 +112,13 @@ module _ (f : List ℕ) where
     pub told-stop : i < length f → isDigit (getD f i 0) ≡ false → none ≡ number f
     unfolding number allDigits
     told-stop l h =
-        let broken : allDigits f ≡ false = ap allDigits (split-at f i 0 l) ∙ rw (digits-append (take i f) (getD f i 0 ∷ drop (suc i) f), told .0, h) in
-        rw broken (and-false (leb 1 (length f) && leb (length f) 9) (some (valueOf 0 f)))
+        let broken : allDigits f ≡ false = ap allDigits (split-at f i 0 l)
+        ∙ rw (digits-append (take i f) (getD f i 0 ∷ drop (suc i) f), told .0, h) in
+        rw broken (and-false (leb 1 (length f) && leb (length f) digitsMost) (some (valueOf 0 f)))
 
-    pub told-all : length f ≤ i → 0 < length f → length f ≤ 9 → some v ≡ number f
+    pub told-all : length f ≤ i → 0 < length f → length f ≤ digitsMost → some v ≡ number f
     unfolding number
     told-all l least most =
         let whole : take i f ≡ f = take-all i f l in
-        rw (le-leb 1 (length f) least, le-leb (length f) 9 most, told .1, whole)
+        rw (le-leb 1 (length f) least, le-leb (length f) digitsMost most, told .1, whole)
         (rw (ap allDigits (sym whole) ∙ told .0))

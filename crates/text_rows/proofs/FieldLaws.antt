@@ -30,7 +30,9 @@ lengths-differ (a ∷ xs) [] h = refl
 lengths-differ (a ∷ xs) (b ∷ ys) h = rw (← lengths-differ xs ys (λ e. h (ap suc e))) (and-false (eqb a b))
 
 -- one byte more of both
-pub same-drop : (xs ys : List ℕ) (i : ℕ) → i < length xs → i < length ys → same (drop i xs) (drop i ys) ≡ (eqb (getD xs i 0) (getD ys i 0) && same (drop (suc i) xs) (drop (suc i) ys))
+pub same-drop :
+    (xs ys : List ℕ) (i : ℕ) → i < length xs → i < length ys → same (drop i xs) (drop i ys)
+    ≡ (eqb (getD xs i 0) (getD ys i 0) && same (drop (suc i) xs) (drop (suc i) ys))
 unfolding same
 same-drop xs ys i h l = rw (drop-cons xs i 0 h, drop-cons ys i 0 l)
 
@@ -52,7 +54,9 @@ some-field (b ∷ bs) = go (eqb b comma) (fields bs)
     go false (f ∷ fs) = omega arith
 
 -- the field of n bytes from one place to the next comma, and the fields after it
-cut : (line : List ℕ) (n from r : ℕ) → from + n ≡ r → FirstComma line from r → fields (drop from line) ≡ take n (drop from line) ∷ after line r
+cut :
+    (line : List ℕ) (n from r : ℕ) → from + n ≡ r → FirstComma line from r → fields (drop from line) ≡ take n
+    (drop from line) ∷ after line r
 unfolding fields
 cut line zero from r e first = rw (ap (λ (k : ℕ). drop k line) here) (go (ltb r (length line)) refl)
   where
@@ -66,7 +70,11 @@ cut line zero from r e first = rw (ap (λ (k : ℕ). drop k line) here) (go (ltb
     go false t = rw (drop-of-length-le line {i = r} (ltb-false r (length line) t))
 cut line (suc n) from r e first =
     let l : from < length line = omega (arith, first .within) in
-    rw (drop-cons line from 0 l, ne-eqb (getD line from 0) comma (first .none-before from (omega arith) (omega arith)))
+    rw (
+      drop-cons line from 0 l,
+      ne-eqb (getD line from 0) comma (first .none-before from (omega arith)
+          (omega arith)),
+    )
     (rw (cut line n (suc from) r (omega arith) onward))
   where
     onward : FirstComma line (suc from) r
@@ -114,7 +122,19 @@ module _ (labels : ℕ) (line : List ℕ) {a : ℕ} (fa : FirstComma line 0 a) w
         pub more-fields : (d ≡ length line → ⊥) → Bad ≡ taken labels line
         unfolding rowOf
         more-fields hd =
-            rw (field-before line fa ha, field-before line fb hb, field-before line fc hc, field-before line fd hd, ne-eqb (suc (suc (suc (suc (length (fields (drop (d + 1) line))))))) 4 (λ e. absurd (omega (arith, some-field (drop (d + 1) line)))))
+            rw (
+              field-before line fa ha,
+              field-before line fb hb,
+              field-before line fc hc,
+              field-before line fd hd,
+              ne-eqb (suc
+                  (suc (suc (suc (length (fields (drop (d + 1) line))))))) 4
+                  (λ e. absurd (omega (arith, some-field (drop (d + 1) line)))),
+            )
 
-        pub four-fields : d ≡ length line → {t : Taken} → t ≡ rowOf labels (part line 0 a ∷ part line (a + 1) b ∷ part line (b + 1) c ∷ part line (c + 1) d ∷ []) → t ≡ taken labels line
-        four-fields e h = rw (field-before line fa ha, field-before line fb hb, field-before line fc hc, last-field line fd e) h
+        pub four-fields :
+            d ≡ length line → {t : Taken} → t ≡ rowOf labels
+            (part line 0 a ∷ part line (a + 1) b ∷ part line (b + 1) c ∷ part line (c + 1) d ∷ []) → t ≡ taken labels
+            line
+        four-fields e h =
+            rw (field-before line fa ha, field-before line fb hb, field-before line fc hc, last-field line fd e) h

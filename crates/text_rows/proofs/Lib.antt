@@ -3,3 +3,4 @@ pub mod FieldLaws
 pub mod AnswerLaws
 pub mod LineLaws
 pub mod Decimal
+pub mod WrongTexts

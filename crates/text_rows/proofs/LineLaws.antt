@@ -26,33 +26,44 @@ starts-other [] h = refl
 starts-other (b ∷ bs) h = ne-eqb b lineFeed h
 
 -- a byte that ends nothing, in front of another that is no LF
-ordinary : (b : ℕ) (bs : List ℕ) → (b ≡ lineFeed → ⊥) → (getD bs 0 0 ≡ lineFeed → ⊥) → lines (b ∷ bs) ≡ push b (lines bs)
+ordinary :
+    (b : ℕ) (bs : List ℕ) → (b ≡ lineFeed → ⊥) → (getD bs 0 0 ≡ lineFeed → ⊥) → lines (b ∷ bs) ≡ push b (lines bs)
 unfolding lines
 ordinary b bs h g = rw (ne-eqb b lineFeed h, starts-other bs g, and-false (eqb b carriageReturn))
 
 -- one byte before the LF
-one-before : (t : Bool) (b : ℕ) (s : List ℕ) (ls : List (List ℕ)) → cond (t && true) ([] ∷ ls) (push b ([] ∷ ls)) ≡ take (cond t 0 1) (b ∷ s) ∷ ls
+one-before :
+    (t : Bool) (b : ℕ) (s : List ℕ) (ls : List (List ℕ)) → cond (t && true) ([] ∷ ls) (push b ([] ∷ ls)) ≡ take
+    (cond t 0 1) (b ∷ s) ∷ ls
 one-before true b s ls = refl
 one-before false b s ls = refl
 
-longer : (t : Bool) (b n : ℕ) (s : List ℕ) → b ∷ take (cond t n (suc n)) s ≡ take (cond t (suc n) (suc (suc n))) (b ∷ s)
+longer :
+    (t : Bool) (b n : ℕ) (s : List ℕ) → b ∷ take (cond t n (suc n)) s ≡ take (cond t (suc n) (suc (suc n))) (b ∷ s)
 longer true b n s = refl
 longer false b n s = refl
 
-pub line-fed : (s : List ℕ) (n : ℕ) → n < length s → getD s n 0 ≡ lineFeed → Unfed s n → lines s ≡ take (lineEnd s n) s ∷ lines (drop (suc n) s)
+pub line-fed :
+    (s : List ℕ) (n : ℕ) → n < length s → getD s n 0 ≡ lineFeed → Unfed s n → lines s ≡ take (lineEnd s n) s ∷ lines
+    (drop (suc n) s)
 unfolding lines
 line-fed [] n h e u = absurd (omega arith)
 line-fed (b ∷ bs) zero h e u = rw (eq-eqb b lineFeed e)
 line-fed (b ∷ []) (suc zero) h e u = absurd (omega arith)
-line-fed (b ∷ (c ∷ cs)) (suc zero) h e u = rw (ne-eqb b lineFeed (u 0 (omega arith)), eq-eqb c lineFeed e) (one-before (eqb b carriageReturn) b (c ∷ cs) (lines cs))
+line-fed (b ∷ (c ∷ cs)) (suc zero) h e u =
+    rw (ne-eqb b lineFeed (u 0 (omega arith)), eq-eqb c lineFeed e)
+    (one-before (eqb b carriageReturn) b (c ∷ cs) (lines cs))
 line-fed (b ∷ bs) (suc (suc n)) h e u =
-    ordinary b bs (u 0 (omega arith)) (u 1 (omega arith)) ∙ (ap (push b) (line-fed bs (suc n) (omega arith) e (λ k g. u (suc k) (omega arith)))
+    ordinary b bs (u 0 (omega arith)) (u 1 (omega arith))
+    ∙ (ap (push b) (line-fed bs (suc n) (omega arith) e (λ k g. u (suc k) (omega arith)))
     ∙ ap (λ (l : List ℕ). l ∷ lines (drop (suc (suc n)) bs)) (longer (eqb (getD bs n 0) carriageReturn) b n bs))
 
 pub line-last : (b : ℕ) (bs : List ℕ) → Unfed (b ∷ bs) (suc (length bs)) → lines (b ∷ bs) ≡ (b ∷ bs) ∷ []
 unfolding lines
 line-last b [] u = ordinary b [] (u 0 (omega arith)) (λ e. absurd (omega arith))
-line-last b (c ∷ cs) u = ordinary b (c ∷ cs) (u 0 (omega arith)) (u 1 (omega arith)) ∙ ap (push b) (line-last c cs (λ k g. u (suc k) (omega arith)))
+line-last b (c ∷ cs) u =
+    ordinary b (c ∷ cs) (u 0 (omega arith)) (u 1 (omega arith)) ∙ ap (push b)
+    (line-last c cs (λ k g. u (suc k) (omega arith)))
 
 pub end-most : (s : List ℕ) (n : ℕ) → lineEnd s n ≤ n
 end-most s zero = omega arith
@@ -72,18 +83,28 @@ Passed text at i = (k : ℕ) → at ≤ k → k < i → getD text k 0 ≡ lineFe
 unfed : (text : List ℕ) (at i : ℕ) → Passed text at i → Unfed (drop at text) (i - at)
 unfed text at i p k h e = p (at + k) (omega arith) (omega arith) (sym (getD-drop at text k 0) ∙ e)
 
-pub passed-more : (text : List ℕ) (at i : ℕ) → Passed text at i → (getD text i 0 ≡ lineFeed → ⊥) → Passed text at (i + 1)
-passed-more text at i p h k g l = below-more (λ j. at ≤ j → getD text j 0 ≡ lineFeed → ⊥) i (λ j b a. p j a b) (λ a. h) k l g
+pub passed-more :
+    (text : List ℕ) (at i : ℕ) → Passed text at i → (getD text i 0 ≡ lineFeed → ⊥) → Passed text at (i + 1)
+passed-more text at i p h k g l =
+    below-more (λ j. at ≤ j → getD text j 0 ≡ lineFeed → ⊥) i (λ j b a. p j a b) (λ a. h) k l g
 
 -- the line at a position whose LF is at i
-pub fed-line : (text : List ℕ) (from : Cursor) (i : ℕ) → from .at ≤ i → i < length text → getD text i 0 ≡ lineFeed → Passed text (from .at) i → LineAt text from (record { end = from .at + lineEnd (drop (from .at) text) (i - from .at); next = record { at = i + 1; line = from .line + 1 } })
+pub fed-line :
+    (text : List ℕ) (from : Cursor) (i : ℕ) → from .at ≤ i → i < length text → getD text i 0 ≡ lineFeed → Passed text
+    (from .at) i → LineAt text from
+    (record {
+      end = from .at + lineEnd (drop (from .at) text) (i - from
+          .at);
+      next = record { at = i + 1; line = from .line + 1 };
+    })
 fed-line text from i h g e p =
     let s = drop (from .at) text in
     let n = i - from .at in
     let back : from .at + n ≡ i = omega arith in
     let past : from .at + suc n ≡ i + 1 = omega arith in
     let shown : getD s n 0 ≡ lineFeed = getD-drop (from .at) text n 0 ∙ (ap (λ (k : ℕ). getD text k 0) back ∙ e) in
-    let after : drop (suc n) s ≡ drop (i + 1) text = drop-drop (suc n) (from .at) text ∙ ap (λ (k : ℕ). drop k text) past in
+    let after : drop (suc n) s ≡ drop (i + 1) text = drop-drop (suc n) (from .at) text ∙ ap (λ (k : ℕ). drop k text)
+    past in
     let most : lineEnd s n ≤ n = end-most s n in
     let size : from .at + lineEnd s n - from .at ≡ lineEnd s n = omega arith in
     record {
@@ -96,7 +117,9 @@ fed-line text from i h g e p =
     }
 
 -- the line at a position after which there is no LF
-pub last-line : (text : List ℕ) (from : Cursor) (i : ℕ) → from .at < length text → i ≤ length text → length text ≤ i → Passed text (from .at) i → LineAt text from (record { end = i; next = record { at = i; line = from .line + 1 } })
+pub last-line :
+    (text : List ℕ) (from : Cursor) (i : ℕ) → from .at < length text → i ≤ length text → length text ≤ i → Passed text
+    (from .at) i → LineAt text from (record { end = i; next = record { at = i; line = from .line + 1 } })
 unfolding lines
 last-line text from i h g l p =
     let s = drop (from .at) text in
@@ -124,7 +147,10 @@ module _ (text : List ℕ) (at feed : ℕ) (h : at < feed) where
   byte = getD-drop at text (feed - at - 1) 0 ∙ ap (λ (k : ℕ). getD text k 0) (omega arith)
 
   pub end-return : getD text (feed - 1) 0 ≡ carriageReturn → feed - 1 ≡ at + lineEnd (drop at text) (feed - at)
-  end-return e = rw before (rw (eq-eqb (getD (drop at text) (feed - at - 1) 0) carriageReturn (byte ∙ e)) (omega arith))
+  end-return e =
+      rw before (rw (eq-eqb (getD (drop at text) (feed - at - 1) 0) carriageReturn (byte ∙ e)) (omega arith))
 
   pub end-other : (getD text (feed - 1) 0 ≡ carriageReturn → ⊥) → feed ≡ at + lineEnd (drop at text) (feed - at)
-  end-other e = rw before (rw (ne-eqb (getD (drop at text) (feed - at - 1) 0) carriageReturn (λ (g : getD (drop at text) (feed - at - 1) 0 ≡ carriageReturn). e (sym byte ∙ g))) (omega arith))
+  end-other e =
+      rw before (rw (ne-eqb (getD (drop at text) (feed - at - 1) 0) carriageReturn
+      (λ (g : getD (drop at text) (feed - at - 1) 0 ≡ carriageReturn). e (sym byte ∙ g))) (omega arith))

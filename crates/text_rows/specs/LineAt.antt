@@ -21,4 +21,6 @@ pub record LineAt (text : List ℕ) (from : Cursor) (l : Line) : Type 0 where
   pub on : from .at < l .next .at
   pub rest : l .next .at ≤ length text
   pub number : l .next .line ≡ from .line + 1
-  pub parted : lines (drop (from .at) text) ≡ take (l .end - from .at) (drop (from .at) text) ∷ lines (drop (l .next .at) text)
+  pub parted :
+      lines (drop (from .at) text)
+      ≡ take (l .end - from .at) (drop (from .at) text) ∷ lines (drop (l .next .at) text)

@@ -1,7 +1,7 @@
 -- The lines of a text and the fields of a line (document 01, "Sheet text"; RFC 4180 without quotes).
 use Prim.Native.Nat.{ℕ}
 use mathlib.Core.Bool.{Bool, false, cond, _&&_}
-use mathlib.Core.List.{List, [], _∷_}
+use mathlib.Core.List.{List, [], _∷_, _++_}
 use lib.Dec.{eqb}
 
 -- the bytes LF, CR and the comma
@@ -24,10 +24,14 @@ abbrev pub startsWith : ℕ → List ℕ → Bool
 startsWith b [] = false
 startsWith b (c ∷ cs) = eqb c b
 
--- "Records end in CRLF; a bare LF is also taken, and the last end may lack. A CR that is not just before a LF belongs to its field"
+-- "Records end in CRLF; a bare LF is also taken, and the last end may lack.
+-- A CR that is not just before a LF belongs to its field"
 unfoldable pub lines : List ℕ → List (List ℕ)
 lines [] = []
-lines (b ∷ bs) = cond (eqb b lineFeed) ([] ∷ lines bs) (cond (eqb b carriageReturn && startsWith lineFeed bs) (lines bs) (push b (lines bs)))
+lines (b ∷ bs) =
+    cond (eqb b lineFeed) ([] ∷ lines bs)
+    (cond (eqb b carriageReturn && startsWith lineFeed bs) (lines bs)
+    (push b (lines bs)))
 
 -- "comma-separated records .. Quotes are not taken": a quote is a byte like any other
 unfoldable pub fields : List ℕ → List (List ℕ)
@@ -40,3 +44,10 @@ next field = comma ∷ field
 
 abbrev pub recordEnd : List ℕ
 recordEnd = carriageReturn ∷ lineFeed ∷ []
+
+-- four fields joined: as a line, and as a record with its end
+abbrev pub lineOf : (word first second third : List ℕ) → List ℕ
+lineOf word a b c = word ++ (next a ++ (next b ++ next c))
+
+abbrev pub recordOf : (word first second third : List ℕ) → List ℕ
+recordOf word a b c = word ++ (next a ++ (next b ++ (next c ++ recordEnd)))

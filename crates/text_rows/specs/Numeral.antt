@@ -7,15 +7,19 @@ use lib.ListN.{length}
 use lib.IntN.{ℤ, pos, negsuc, negℤ}
 use mathlib.Core.Option.{Option, none, some}
 
--- the bytes '0' and '-'
+-- the bytes '0', '9' and '-'
 abbrev pub digitZero : ℕ
 digitZero = 48
+
+abbrev pub digitNine : ℕ
+digitNine = 57
 
 abbrev pub minus : ℕ
 minus = 45
 
+-- whether a byte is a digit, and whether all bytes are
 abbrev pub isDigit : ℕ → Bool
-isDigit b = leb digitZero b && leb b 57
+isDigit b = leb digitZero b && leb b digitNine
 
 unfoldable pub allDigits : List ℕ → Bool
 allDigits [] = true
@@ -27,9 +31,13 @@ valueOf n [] = n
 valueOf n (b ∷ bs) = valueOf (10 * n + (b - digitZero)) bs
 
 -- "A number is 1 to 9 digits, leading zeros allowed"
-unfoldable pub number : List ℕ → Option ℕ
-number f = cond (leb 1 (length f) && leb (length f) 9 && allDigits f) (some (valueOf 0 f)) none
+abbrev pub digitsMost : ℕ
+digitsMost = 9
 
+unfoldable pub number : List ℕ → Option ℕ
+number f = cond (leb 1 (length f) && leb (length f) digitsMost && allDigits f) (some (valueOf 0 f)) none
+
+-- a function of what is told, if anything is
 abbrev pub optionMap : {A B : Type 0} → (A → B) → Option A → Option B
 optionMap h none = none
 optionMap h (some a) = some (h a)
@@ -37,7 +45,9 @@ optionMap h (some a) = some (h a)
 -- "a minus sign in front only in a wanted place or distance"
 unfoldable pub signed : List ℕ → Option ℤ
 signed [] = none
-signed (b ∷ bs) = cond (eqb b minus) (optionMap (λ n. negℤ (pos n)) (number bs)) (optionMap pos (number (b ∷ bs)))
+signed (b ∷ bs) =
+    cond (eqb b minus) (optionMap (λ n. negℤ (pos n)) (number bs))
+    (optionMap pos (number (b ∷ bs)))
 
 -- "A blank weight is 1"
 unfoldable pub weightOf : List ℕ → Option ℤ
@@ -47,11 +57,17 @@ weightOf (b ∷ bs) = optionMap pos (number (b ∷ bs))
 -- the decimal digits of a number, at most so many
 unfoldable pub digitsOf : ℕ → ℕ → List ℕ
 digitsOf zero n = []
-digitsOf (suc most) n = cond (ltb n 10) ((digitZero + n) ∷ []) (digitsOf most (n / 10) ++ ((digitZero + n % 10) ∷ []))
+digitsOf (suc most) n =
+    cond (ltb n 10) ((digitZero + n) ∷ [])
+    (digitsOf most (n / 10) ++ ((digitZero + n % 10) ∷ []))
 
--- the decimal digits of a number without leading zeros; a number of 64 bits has at most 20
+-- a number of 64 bits has at most so many digits
+abbrev pub decimalMost : ℕ
+decimalMost = 20
+
+-- the decimal digits of a number without leading zeros
 abbrev pub decimal : ℕ → List ℕ
-decimal n = digitsOf 20 n
+decimal n = digitsOf decimalMost n
 
 -- with a minus sign where it is below zero
 abbrev pub signedDecimal : ℤ → List ℕ

@@ -8,6 +8,7 @@ use mathlib.Core.Option.{Option, none, some}
 use Rattle.text_rows.specs.declared.Row.the-variants.{Label, Gap}
 use Rattle.text_rows.specs.declared.Taken.{Taken}
 use Rattle.text_rows.specs.declared.Taken.the-variants.{Good, Bad}
+use Rattle.text_rows.specs.Bytes.{bytes}
 use Rattle.text_rows.specs.Lines.{fields}
 use Rattle.text_rows.specs.Numeral.{number, signed, weightOf}
 
@@ -20,23 +21,28 @@ same (a ∷ xs) (b ∷ bs) = eqb a b && same xs bs
 
 -- the words label and gap
 abbrev pub labelWord : List ℕ
-labelWord = 108 ∷ 97 ∷ 98 ∷ 101 ∷ 108 ∷ []
+labelWord = bytes "label"
 
 abbrev pub gapWord : List ℕ
-gapWord = 103 ∷ 97 ∷ 112 ∷ []
+gapWord = bytes "gap"
 
 -- what a field tells, if it tells anything; a field that breaks its rule makes a bad line
 abbrev pub given : {A : Type 0} → Option A → (A → Taken) → Taken
 given none next = Bad
 given (some a) next = next a
 
--- "label, its number, wanted place, weight": "Label numbers run 0, 1, 2 in the order of their records", so the number is the count of labels before
+-- "label, its number, wanted place, weight": "Label numbers run 0, 1, 2 in the order of their records",
+-- so the number is the count of labels before
 abbrev pub labelRow : ℕ → (number′ wanted weight : List ℕ) → Taken
-labelRow labels k d w = given (number k) (λ n. given (signed d) (λ z. given (weightOf w) (λ m. cond (eqb n labels) (Good (Label (record { wanted = z; weight = m }))) Bad)))
+labelRow labels k d w =
+    given (number k) (λ n. given (signed d) (λ z. given (weightOf w) (λ m.
+    cond (eqb n labels) (Good (Label (record { wanted = z; weight = m }))) Bad)))
 
 -- "gap, left, right, distance"
 abbrev pub gapRow : (left right distance : List ℕ) → Taken
-gapRow u v g = given (number u) (λ l. given (number v) (λ r. given (signed g) (λ z. Good (Gap (record { left = l; right = r; distance = z })))))
+gapRow u v g =
+    given (number u) (λ l. given (number v) (λ r. given (signed g) (λ z.
+    Good (Gap (record { left = l; right = r; distance = z })))))
 
 -- a field of a line
 abbrev pub fieldAt : List (List ℕ) → ℕ → List ℕ

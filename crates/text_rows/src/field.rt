@@ -6,26 +6,29 @@ ghost use Rattle.text_rows.specs.Fields.{natural, integer};
 ghost use Rattle.text_rows.specs.Taking.{same};
 ghost use Rattle.ground.specs.Views.{before};
 
+// Digits of a number, at most.
+const DIGITS_MOST: usize = 9;
+
 // What a field tells that takes no sign.
-pub enum Natural {
+pub(crate) enum Natural {
     Value(usize),
     Not,
 }
 
 // What a field tells that may take a sign.
-pub enum Integer {
+pub(crate) enum Integer {
     Value(i64),
     Not,
 }
 
-// 1 to 9 digits.
+// A number: digits alone, at least one.
 pub(crate) fn number(field: &[u8]) -> Natural
     ensures { λ r. ⌜ r ≡ natural (numeral.number (before field)) ⌝ }
 {
     if field.len() < 1 {
         return Natural::Not;
     }
-    if 9 < field.len() {
+    if DIGITS_MOST < field.len() {
         return Natural::Not;
     }
     let mut value: usize = 0;

@@ -1,7 +1,7 @@
 // The lines of a text, their fields, and the records that they tell.
 use ground::GapRecord;
 
-pub mod field;
+mod field;
 pub mod lines;
 pub mod rows;
 

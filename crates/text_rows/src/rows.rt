@@ -73,7 +73,9 @@ fn gap_row(left: &[u8], right: &[u8], distance: &[u8]) -> Taken
 
 // A record of four fields, by its first.
 fn row_of(word: &[u8], first: &[u8], second: &[u8], third: &[u8], labels: usize) -> Taken
-    ensures { λ r. ⌜ r ≡ rowOf labels (before word ∷ before first ∷ before second ∷ before third ∷ []) ⌝ }
+    ensures { λ r.
+        let fields = before word ∷ before first ∷ before second ∷ before third ∷ [] in
+        ⌜ r ≡ rowOf labels fields ⌝ }
 {
     if field::is_word(word, b"label") {
         return label_row(first, second, third, labels);

@@ -1,4 +1,5 @@
--- What is promised of two layout calls, one of each form (document 01, "What a station lends"): "the pair may be one of each".
+-- What is promised of two layout calls, one of each form (document 01, "What a station lends"):
+-- "the pair may be one of each".
 use Rattle.ground.specs.declared.Answer.{Answer}
 use Rattle.sheet_checks.specs.Lent.{Read, Written}
 use Rattle.layout.specs.Promise.{Promise}

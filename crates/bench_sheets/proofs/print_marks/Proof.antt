@@ -1,20 +1,21 @@
--- `bench_sheets::print_marks` is safe and ends: the measure is what is left of `count`.
+-- `bench_sheets::print_marks` is safe and ends: the measure is what is left of the record.
 use Prim.Native.Nat.{_≤_, _-_}
+use lib.ListN.{length}
 use borrow.Author.Needs.{needs}
 use Rattle.bench_sheets.proofs.print_marks.Statement.{statement}
 use Rattle.bench_sheets.proofs.print_marks.Tie as tie
 
 abbrev Inv-loop : tie.InvT-loop
-Inv-loop count carried e₀ t4 t5 e = e ≤ count
+Inv-loop carried e₀ t3 t4 e = e ≤ length carried
 
 abbrev μ-loop : tie.MeasureT-loop
-μ-loop count carried e₀ t4 t5 e = count - e
+μ-loop carried e₀ t3 t4 e = length carried - e
 
 loop-holds : tie.Need-loop-holds Inv-loop μ-loop
 loop-holds c = search needs
 
-shared-slice-read-if2 : tie.Need-shared-slice-read-if2 Inv-loop μ-loop
-shared-slice-read-if2 c = search needs
+shared-slice-read-if1 : tie.Need-shared-slice-read-if1 Inv-loop μ-loop
+shared-slice-read-if1 c = search needs
 
 slice-aggregate-write-all : tie.Need-slice-aggregate-write-all Inv-loop μ-loop
 slice-aggregate-write-all c = search needs
@@ -50,7 +51,7 @@ print-marks-spec =
     Inv-loop
     μ-loop
     loop-holds
-    shared-slice-read-if2
+    shared-slice-read-if1
     slice-aggregate-write-all
     write-all-requires
     print-decimal-requires

@@ -1,4 +1,5 @@
--- `dirmoog_c::dirmoog_layout` meets its contract: the promise is that of the layout entry, and its answer is the one told.
+-- `dirmoog_c::dirmoog_layout` meets its contract:
+-- the promise is that of the layout entry, and its answer is the one told.
 use borrow.Author.Needs.{needs}
 use Rattle.dirmoog_c.proofs.Telling.{told-both}
 use Rattle.dirmoog_c.proofs.dirmoog_layout.Statement.{statement}
@@ -45,7 +46,16 @@ same-length-7 c = search needs
 
 returns : tie.Need-returns
 returns c =
-    record { answer = c .before .before .before .before .before .before .before .before .before .before .before .before .before .before .before .before .before .before .before .lay-out .result; kept = c .before .before .before .before .before .before .before .before .before .before .before .before .before .before .before .before .before .before .before .lay-out .ensures; returned = c .before .before .before .before .before .before .before .before .before .before .number-of .ensures; out-told = told-both (c .before .before .before .before .before .before .before .before .before .before .before .before .before .before .before .before .before .before .before .before .before .before .before .before .before .before .before .before .before .before .before .args .out .now) (c .before .before .before .before .before .before .before .put .last .0) (c .before .before .before .before .before .before .before .put .ensures) (c .before .before .before .before .before .before .before .before .place-of .ensures) (c .before .before .put2 .ensures) (c .before .before .before .ring-of .ensures) }
+    let p = c .before .before .before .before .before .before .before in
+    let d = p .before .before .before .before .before .before .before .before .before .before .before .before in
+    let s = d .before .before .before .before .before .before .before .before .before .before .before .before in
+    record {
+      answer = d .lay-out .result;
+      kept = d .lay-out .ensures;
+      returned = p .before .before .before .number-of .ensures;
+      out-told = told-both (s .args .out .now) (p .put .last .0) (p .put .ensures) (p .before .place-of .ensures)
+          (c .before .before .put2 .ensures) (c .before .before .before .ring-of .ensures);
+    }
 
 pub dirmoog-layout-spec : {M : Type 1} → statement M
 dirmoog-layout-spec =

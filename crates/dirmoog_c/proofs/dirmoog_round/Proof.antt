@@ -31,7 +31,9 @@ returns : tie.Need-returns
 returns c =
     let whole = c .before .before .before .whole in (
       c .number .ensures ∙ ap numberOf (answered (c .before .before .before .before .before)),
-      told-at (c .before .before .before .before .before .before .args .out .now) 0 (c .before .before .put-signed .ensures) (toZ-ofZ w64 (whole .result) (record { sfits = whole .ok }) ∙ whole .ensures ∙ ap wholeOf (answered (c .before .before .before .before .before))),
+      told-at (c .before .before .before .before .before .before .args .out .now) 0 (c .before .before .put-signed .ensures)
+          (toZ-ofZ w64 (whole .result) (record { sfits = whole .ok }) ∙ whole .ensures
+          ∙ ap wholeOf (answered (c .before .before .before .before .before))),
     )
 
 pub dirmoog-round-spec : {M : Type 1} → statement M

@@ -10,6 +10,7 @@ use mir.Syntax.{w64}
 use mir.ValLaws.{toZ-ofZ}
 use Rattle.algebra.proofs.Whole.{le-parts, parts-lt}
 use Rattle.algebra.proofs.Quotient.{kept, le-of-test}
+use Rattle.ground.specs.Limits.{fractionDenMost, fractionNumMost}
 use Rattle.exact_vectors.proofs.within.Statement.{statement}
 use Rattle.exact_vectors.proofs.within.Tie as tie
 
@@ -34,8 +35,8 @@ returns-3 c = λ e.
     let low : pos 1 ≤ℤ s .args .den = subst (λ (v : ℤ). pos 1 ≤ℤ v) (den-kept s) (le-of-test (c .before .before .if1 .left)) in
     record {
       above = parts-lt (omega (arith, le-parts low));
-      den-most = subst (λ (v : ℤ). v ≤ℤ pos 518400) (den-kept s) (le-of-test (c .before .if2 .left));
-      num-most = omega (arith, leb-true (c .magnitude .result) 4611686018427387904 e, c .magnitude .ensures, ap natAbs (num-kept s));
+      den-most = subst (λ (v : ℤ). v ≤ℤ pos fractionDenMost) (den-kept s) (le-of-test (c .before .if2 .left));
+      num-most = omega (arith, leb-true (c .magnitude .result) fractionNumMost e, c .magnitude .ensures, ap natAbs (num-kept s));
     }
 
 pub within-spec : {M : Type 1} → statement M

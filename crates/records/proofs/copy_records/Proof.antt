@@ -1,4 +1,5 @@
--- `records::copy_records` meets its contract: a walk of its MIR, by hand. The list is looked into and shut again in each turn, for the record that is read.
+-- `records::copy_records` meets its contract: a walk of its MIR, by hand.
+-- The list is looked into and shut again in each turn, for the record that is read.
 -- The local array is taken apart before the loop, so that a turn writes one element of it, and put together after it.
 -- The invariant: the array's elements are the first i records, `copied gs i`, by whose definition each turn is right.
 -- Assumes nothing.
@@ -26,7 +27,8 @@ use contract.Monad.{Fun}
 use contract.Running.{givenOf, tables, tablesOf}
 use types.Kit.{Given, Item, ‵, some, runs, anyQ, atRet, Sq, _⊛_, ⋆, _$_, _∵_, !, qed, by, move, keep, drop, use1, use2, split, join, pick, rewrite, fsplit, fjoin, suffices, frame, done}
 use types.Part.{agg, rep, whole, sub, look-in}
-use types.Run.{look, look-raw, store, store-raw, init, forget, stop, hop, fld, from, load, lit, addr, of-opd, bin, and-then, no-more, assigns, assigns-last, first, blocks, stays, leaves-loop, returns, enter, alloc1, alloc0, params1, pass1, pass0, free1, free0, well-typed, exec, Below, again, loops}
+use types.Run.{look, look-raw, store, store-raw, init, forget, stop, hop, fld, from, load, lit, addr, of-opd, bin, and-then, no-more, assigns}
+use types.Run.{assigns-last, first, blocks, stays, leaves-loop, returns, enter, alloc1, alloc0, params1, pass1, pass0, free1, free0, well-typed, exec, Below, again, loops}
 use sound.WpLaws.{WpFn-mono}
 use denote.RattleType.{RattleType, owns}
 use denote.Laws.{Is, Copy, shows}
@@ -90,7 +92,8 @@ none-typed = (tt, (record { fits = lit< tt }, (record { fits = lit< tt }, (recor
 abbrev stayed : Stays (copy-records.ended .signature .params) (copy-records.ended .kept)
 stayed = (stay-none-slice (0 ∷ []) tt (plain (λ _. R)) yes, (stay-none (λ _. usize) yes, tt))
 
-module _ {M : Type 1} (𝓤 : URA M) (H : Heap 𝓤) (A : Atoms 𝓤) (W : Given 𝓤 H A) (mem : Memory → SProp 𝓤) (run : Routine → Fun 𝓤) (κ : Lft) (q : Share) (b o : ℕ) (γ : GName) (gs : List GapRecord) (n : ℕ)
+module _ {M : Type 1} (𝓤 : URA M) (H : Heap 𝓤) (A : Atoms 𝓤) (W : Given 𝓤 H A) (mem : Memory → SProp 𝓤) (run : Routine → Fun 𝓤) (κ : Lft)
+    (q : Share) (b o : ℕ) (γ : GName) (gs : List GapRecord) (n : ℕ)
     (n-fits : n < 2 ^ 64) (n-in : (n ≤ length gs) × (n ≤ 192)) where
   abbrev x : RefT (List GapRecord)
   x = record { ptr = (b, o); name = γ; now = gs }
@@ -142,8 +145,10 @@ module _ {M : Type 1} (𝓤 : URA M) (H : Heap 𝓤) (A : Atoms 𝓤) (W : Given
     abbrev At : Upto → List (Item 𝓤)
     At i =
         ‵ (froom tyPtr l₁₂ 0) ∷ ‵ (fdies tyPtr l₁₂) ∷ ‵ (froom tyPtr l₁₁ 0) ∷ ‵ (fdies tyPtr l₁₁) ∷ ‵ (froom word l₁₀ 0) ∷ ‵ (fdies word l₁₀) ∷ ‵ (froom rec l₉ 0) ∷ ‵ (fdies rec l₉)
-        ∷ ‵ (froom tyPtr l₈ 0) ∷ ‵ (fdies tyPtr l₈) ∷ ‵ (froom word l₇ 0) ∷ ‵ (fdies word l₇) ∷ ‵ (froom tyBool l₆ 0) ∷ ‵ (fdies tyBool l₆) ∷ ‵ (fat fullShare rec l₅ 0 (val noRecord)) ∷ ‵ (fdies rec l₅)
-        ∷ ‵ (fat fullShare word l₄ 0 (vint w64 (i .0))) ∷ ‵ (fdies word l₄) ∷ ‵ (row R fullShare (copied gs (i .0)) l₃ 0) ∷ ‵ (fdies array l₃) ∷ ‵ (fat fullShare word l₂ 0 (vint w64 n)) ∷ ‵ (fdies word l₂)
+        ∷ ‵ (froom tyPtr l₈ 0) ∷ ‵ (fdies tyPtr l₈) ∷ ‵ (froom word l₇ 0) ∷ ‵ (fdies word l₇) ∷ ‵ (froom tyBool l₆ 0) ∷ ‵ (fdies tyBool l₆) ∷
+        ‵ (fat fullShare rec l₅ 0 (val noRecord)) ∷ ‵ (fdies rec l₅)
+        ∷ ‵ (fat fullShare word l₄ 0 (vint w64 (i .0))) ∷ ‵ (fdies word l₄) ∷ ‵ (row R fullShare (copied gs (i .0)) l₃ 0) ∷ ‵ (fdies array l₃) ∷
+        ‵ (fat fullShare word l₂ 0 (vint w64 n)) ∷ ‵ (fdies word l₂)
         ∷ ‵ (fat fullShare slice l₁ 0 s) ∷ ‵ (fdies slice l₁) ∷ ‵ (froom array l₀ 0) ∷ ‵ (fdies array l₀) ∷ ‵ (flft κ q) ∷ ‵ Own ∷ []
 
     abbrev Turned : Upto → Out → SProp 𝓤
@@ -160,10 +165,12 @@ module _ {M : Type 1} (𝓤 : URA M) (H : Heap 𝓤) (A : Atoms 𝓤) (W : Given
         rewrite ! 8 (λ (p : ℕ). ‵ (fat fullShare tyPtr l₈ 0 (vptr b p))) (sym (place-is 24 o (i .0))) refl $
         -- the list is looked into, by one of two copies of what it owns
         move ! (27 ∷ []) $ use1 W (‵ Own ⊛ ‵ Own) (shr-slice-copy 𝓤 H A W (named 0) κ R .twice x (s ∷ [])) $ split ! $ fsplit ! $ drop ! $ fsplit ! $ drop ! $ move ! (0 ∷ 28 ∷ []) $
-        looks-slice ! tt R (Is R) (shows 𝓤 H A R) vals (LL.tells T.the-type T′.the-laws) copies gs b o (λ q′. elem-out ! R (Is R) (shows 𝓤 H A R) vals (LL.tells T.the-type T′.the-laws) q′ gs (i .0) noRecord b o inside (λ g.
+        looks-slice ! tt R (Is R) (shows 𝓤 H A R) vals (LL.tells T.the-type T′.the-laws) copies gs b o
+        (λ q′. elem-out ! R (Is R) (shows 𝓤 H A R) vals (LL.tells T.the-type T′.the-laws) q′ gs (i .0) noRecord b o inside (λ g.
         -- [the record; what it owns; the others; what shuts; the fractured borrow; Own; the locals]
         assigns ! (of-opd ! (load ! (from ! (hop ! (look ! 14 refl) (stop !))) (look-raw ! 0 refl))) (from ! (stop !)) (init ! 12 refl (typed g)) $
-        move ! (1 ∷ []) $ use1 W (‵ (R .own gap (vals gap)) ⊛ ‵ (R .own gap (vals gap))) (copies .twice gap (vals gap)) $ split ! $ move ! (2 ∷ 0 ∷ 3 ∷ []) $ elem-back ! R q′ gs (i .0) noRecord (vals gap) b o inside $
+        move ! (1 ∷ []) $ use1 W (‵ (R .own gap (vals gap)) ⊛ ‵ (R .own gap (vals gap))) (copies .twice gap (vals gap)) $ split ! $
+        move ! (2 ∷ 0 ∷ 3 ∷ []) $ elem-back ! R q′ gs (i .0) noRecord (vals gap) b o inside $
         move ! (0 ∷ 2 ∷ []) $ shuts-slice ! tt R q′ gs b o $ move ! (2 ∷ []) $ drop ! $
         -- [the token; what the record owns; Own; the locals]
         assigns ! (bin ! (load ! (from ! (stop !)) (look ! 19 refl)) (lit ! tt) (record { fits = far })) (from ! (stop !)) (init ! 7 refl (tt, record { fits = far })) $
@@ -205,7 +212,8 @@ module _ {M : Type 1} (𝓤 : URA M) (H : Heap 𝓤) (A : Atoms 𝓤) (W : Given
     turns-at i false e =
         assigns ! (bin ! (load ! (from ! (stop !)) (look ! 16 refl)) (load ! (from ! (stop !)) (look ! 20 refl)) tt) (from ! (stop !)) (init ! 12 refl (tt, tt)) $
         rewrite ! 12 (λ (t : Bool). ‵ (fat fullShare tyBool l₆ 0 (vbool t))) e refl $ leaves-loop ! (load ! (from ! (stop !)) (look ! 12 refl)) $ exec ! C Λ En pieces.t-5 (atRet En Post) $
-        move ! (18 ∷ []) $ use1 W (some (λ (v : Val). ‵ (fat fullShare array l₃ 0 v) ⊛ ‵ (Array R 192 .own (copied gs (i .0)) (v ∷ [])))) (row-in 𝓤 H A W R tt 192 l₃ (copied gs (i .0)) (copied-length gs (i .0))) $
+        move ! (18 ∷ []) $ use1 W (some (λ (v : Val). ‵ (fat fullShare array l₃ 0 v) ⊛ ‵ (Array R 192 .own (copied gs (i .0)) (v ∷ []))))
+        (row-in 𝓤 H A W R tt 192 l₃ (copied gs (i .0)) (copied-length gs (i .0))) $
         pick ! (λ v. split ! $ well-typed ! (λ wt.
         -- [_3; what the array owns; the other locals; the token; Own]
         assigns ! (of-opd ! (load ! (from ! (stop !)) (look ! 0 refl))) (from ! (stop !)) (init ! 25 refl wt) $
@@ -224,7 +232,10 @@ module _ {M : Type 1} (𝓤 : URA M) (H : Heap 𝓤) (A : Atoms 𝓤) (W : Given
   walk : (𝓣 : Tables 𝓤 H) → Room R (length gs) → ent 𝓤 (onEntry 𝓤 H A copy-records.signature (κ, tt) (q, tt) (x, (n, tt)) at) (WpFn 𝓤 H (𝓣 .C) (𝓣 .Λ) code.function (s ∷ vint w64 n ∷ []) Post)
   walk 𝓣 room =
       qed W ((‵ (flft κ q) ⊛ ‵ ftrue) ∷ ‵ (owns (ShrSlice (named 0) κ R ∷ usize ∷ []) (x, (n, tt)) at) ∷ []) ∵ enter ! (𝓣 .C) (𝓣 .Λ) code.function (s ∷ vint w64 n ∷ []) _ $
-      alloc1 ! (λ l₀. alloc1 ! (λ l₁. alloc1 ! (λ l₂. alloc1 ! (λ l₃. alloc1 ! (λ l₄. alloc1 ! (λ l₅. alloc1 ! (λ l₆. alloc1 ! (λ l₇. alloc1 ! (λ l₈. alloc1 ! (λ l₉. alloc1 ! (λ l₁₀. alloc1 ! (λ l₁₁. alloc1 ! (λ l₁₂. alloc0 ! $ params1 ! $
+      alloc1 ! (λ l₀. alloc1 ! (λ l₁.
+      alloc1 ! (λ l₂. alloc1 ! (λ l₃.
+      alloc1 ! (λ l₄. alloc1 ! (λ l₅.
+      alloc1 ! (λ l₆. alloc1 ! (λ l₇. alloc1 ! (λ l₈. alloc1 ! (λ l₉. alloc1 ! (λ l₁₀. alloc1 ! (λ l₁₁. alloc1 ! (λ l₁₂. alloc0 ! $ params1 ! $
       pass1 ! (init ! 22 refl (tt, (tt, (record { fits = room .0 }, tt)))) $ pass1 ! (init ! 20 refl (tt, record { fits = n-fits })) $ pass0 ! $
       assigns ! (agg ! (and-then ! (lit ! tt) (and-then ! (lit ! tt) (and-then ! (lit ! tt) (no-more !))))) (from ! (stop !)) (init ! 14 refl none-typed) $
       assigns ! (rep ! 192 (load ! (from ! (stop !)) (look ! 14 refl))) (from ! (stop !)) (init ! 18 refl (repeated rec (val noRecord) none-typed 192)) $
@@ -239,14 +250,19 @@ module _ {M : Type 1} (𝓤 : URA M) (H : Heap 𝓤) (A : Atoms 𝓤) (W : Given
 
 module _ {M : Type 1} (𝓤 : URA M) (H : Heap 𝓤) (A : Atoms 𝓤) (W : Given 𝓤 H A) (mem : Memory → SProp 𝓤) (run : Routine → Fun 𝓤) where
   copy-walks : (𝓣 : Tables 𝓤 H) → Walks 𝓤 H A copy-records.ended stayed (WpFn 𝓤 H (𝓣 .C) (𝓣 .Λ) code.function) (copy-records.clauses 𝓤 H A mem run)
-  copy-walks 𝓣 = walked 𝓤 H A copy-records.ended stayed (copy-records.clauses 𝓤 H A mem run) (WpFn 𝓤 H (𝓣 .C) (𝓣 .Λ) code.function) (λ κs. (slice-vals, (uint-vals w64, tt))) (λ κs. (shr-slice-tells (named 0) (κs .0) R, (uint-tells w64, tt)))
+  copy-walks 𝓣 =
+      walked 𝓤 H A copy-records.ended stayed (copy-records.clauses 𝓤 H A mem run) (WpFn 𝓤 H (𝓣 .C) (𝓣 .Λ) code.function)
+      (λ κs. (slice-vals, (uint-vals w64, tt))) (λ κs. (shr-slice-tells (named 0) (κs .0) R, (uint-tells w64, tt)))
       (λ κs qs bounds a g are. needs 𝓤 ((a .1 .0 ≤ length (a .0 .now)) × (a .1 .0 ≤ 192)) _ (λ n-in.
       walk 𝓤 H A W mem run (κs .0) (qs .0) (a .0 .ptr .0) (a .0 .ptr .1) (a .0 .name) (a .0 .now) (a .1 .0) (are .1 .0 .1) n-in 𝓣 (are .0 .0 .1)))
 
 copy-meets : {M : Type 1} (𝓤 : URA M) (H : Heap 𝓤) (A : Atoms 𝓤) → Given 𝓤 H A → (mem : Memory → SProp 𝓤) (run : Routine → Fun 𝓤) (𝓣 : Tables 𝓤 H)
     → Meets 𝓤 H A copy-records.signature (WpFn 𝓤 H (𝓣 .C) (𝓣 .Λ) code.function) (copy-records.spec 𝓤 H A mem run)
 copy-meets 𝓤 H A W mem run 𝓣 =
-    walk-meets 𝓤 H A copy-records.ended stayed W (goes-none-slice 𝓤 H A W 1 (0 ∷ []) tt (plain (λ _. R)) yes, (goes-none 𝓤 H A W 1 (λ _. usize) yes (λ κs x f. refl), tt)) (copy-records.clauses 𝓤 H A mem run)
+    walk-meets 𝓤 H A copy-records.ended stayed W (
+      goes-none-slice 𝓤 H A W 1 (0 ∷ []) tt (plain (λ _. R)) yes,
+      (goes-none 𝓤 H A W 1 (λ _. usize) yes (λ κs x f. refl), tt),
+    ) (copy-records.clauses 𝓤 H A mem run)
     (WpFn 𝓤 H (𝓣 .C) (𝓣 .Λ) code.function) (WpFn-mono 𝓤 H (W .laws) 𝓣 code.function) (copy-walks 𝓤 H A W mem run 𝓣)
 
 pub copy-records-spec : {M : Type 1} → stated.statement M

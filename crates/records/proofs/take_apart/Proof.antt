@@ -1,4 +1,5 @@
--- `records::take_apart` meets its contract. The loop's invariant: the first k records are taken apart. The measure is the records left.
+-- `records::take_apart` meets its contract. The loop's invariant: the first k records are taken apart.
+-- The measure is the records left.
 use Prim.Native.Nat.{_≤_, _-_}
 use native.Mathlib.Omega.{arith}
 use mir.Syntax.{w64}

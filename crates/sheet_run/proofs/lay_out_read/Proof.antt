@@ -1,4 +1,5 @@
--- `sheet_run::lay_out_read` meets its contract: the parts that are lent are the sheet that was read, and the part of the record is zeros.
+-- `sheet_run::lay_out_read` meets its contract:
+-- the parts that are lent are the sheet that was read, and the part of the record is zeros.
 use mathlib.Core.Path.{refl, sym, subst}
 use mathlib.Core.List.{List}
 use Prim.Native.Nat.{ℕ}
@@ -28,7 +29,14 @@ over s carried =
 abbrev left-by : tie.After-lay-out → Written
 left-by d =
     let l = d .lay-out .last in
-    record { place-num = l .1 .1 .1 .1 .1 .1 .0; place-den = l .1 .1 .1 .1 .1 .1 .1 .0; mult-num = l .1 .1 .1 .1 .1 .1 .1 .1 .0; mult-den = l .1 .1 .1 .1 .1 .1 .1 .1 .1 .0; ring = l .1 .1 .1 .1 .1 .1 .1 .1 .1 .1 .0; carried = l .1 .1 .1 .1 .1 .0 }
+    record {
+      place-num = l .1 .1 .1 .1 .1 .1 .0;
+      place-den = l .1 .1 .1 .1 .1 .1 .1 .0;
+      mult-num = l .1 .1 .1 .1 .1 .1 .1 .1 .0;
+      mult-den = l .1 .1 .1 .1 .1 .1 .1 .1 .1 .0;
+      ring = l .1 .1 .1 .1 .1 .1 .1 .1 .1 .1 .0;
+      carried = l .1 .1 .1 .1 .1 .0;
+    }
 
 slice-aggregate-lay-out : tie.Need-slice-aggregate-lay-out
 slice-aggregate-lay-out c =
@@ -87,7 +95,9 @@ returns c =
     let d = c .before .before .before .before .before .before in
     record {
       after = left-by d;
-      promise = subst (λ (record-lent : List ℕ). Promise (sheetRead (s .args .counts) (read-into s)) (over s record-lent) (d .lay-out .result) (left-by d)) (take-replicate 0 (s .args .counts .gaps) 192 (s .pre .gaps)) (d .lay-out .ensures);
+      promise =
+          subst (λ (record-lent : List ℕ). Promise (sheetRead (s .args .counts) (read-into s)) (over s record-lent) (d .lay-out .result)
+          (left-by d)) (take-replicate 0 (s .args .counts .gaps) 192 (s .pre .gaps)) (d .lay-out .ensures);
       nums-left = refl;
       dens-left = refl;
     }

@@ -24,10 +24,14 @@ abbrev dens : tie.After-lay-out-read → List ℤ
 dens d = d .lay-out-read .last .1 .1 .1 .1 .1 .1 .1 .0
 
 first-nums : (d : tie.After-lay-out-read) → length (take (d .before .before .before .before .before .args .counts .labels) (nums d)) ≡ d .before .before .before .before .before .args .counts .labels
-first-nums d = length-take-le (d .before .before .before .before .before .args .counts .labels) (nums d) (omega (arith, d .before .before .before .before .before .pre .labels, d .lay-out-read .kept .1 .1 .1 .1 .1 .1 .0))
+first-nums d =
+    length-take-le (d .before .before .before .before .before .args .counts .labels) (nums d)
+    (omega (arith, d .before .before .before .before .before .pre .labels, d .lay-out-read .kept .1 .1 .1 .1 .1 .1 .0))
 
 first-dens : (d : tie.After-lay-out-read) → length (take (d .before .before .before .before .before .args .counts .labels) (dens d)) ≡ d .before .before .before .before .before .args .counts .labels
-first-dens d = length-take-le (d .before .before .before .before .before .args .counts .labels) (dens d) (omega (arith, d .before .before .before .before .before .pre .labels, d .lay-out-read .kept .1 .1 .1 .1 .1 .1 .1 .0))
+first-dens d =
+    length-take-le (d .before .before .before .before .before .args .counts .labels) (dens d)
+    (omega (arith, d .before .before .before .before .before .pre .labels, d .lay-out-read .kept .1 .1 .1 .1 .1 .1 .1 .0))
 
 slice-aggregate-lay-out-read : tie.Need-slice-aggregate-lay-out-read
 slice-aggregate-lay-out-read c = search needs

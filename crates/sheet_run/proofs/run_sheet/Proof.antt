@@ -43,8 +43,12 @@ slice-aggregate-print-2 c = search needs
 
 print-requires : tie.Need-print-requires
 print-requires c κs =
-    let d = c .before .before .before .before .before .before .before .before .before .before .before in
-    (omega arith, refl, refusal-most (now (d .before .before .before .before .before .before .before .args .text)) (d .read-sheet .result) (read-into d) (d .read-sheet .ensures) _ (c .before .before .before .before .found .given .1))
+    let d = c .before .before .before .before .before .before .before .before .before .before .before in (
+      omega arith,
+      refl,
+      refusal-most (now (d .before .before .before .before .before .before .before .args .text)) (d .read-sheet .result)
+          (read-into d) (d .read-sheet .ensures) _ (c .before .before .before .before .found .given .1),
+    )
 
 enum-known-found-2 : tie.Need-enum-known-found-2
 enum-known-found-2 c = search needs
@@ -67,7 +71,8 @@ slice-aggregate-print-read-5 c = search needs
 print-read-requires : tie.Need-print-read-requires
 print-read-requires c κs =
     let d = c .before .before .before .before .before .before .before .before .before .before .before .before .before .before in
-    let k = within-limits (now (d .before .before .before .before .before .before .before .args .text)) (d .read-sheet .result) (read-into d) (d .read-sheet .ensures) _ (c .before .before .before .before .before .before .before .found2 .given .1) in
+    let k = within-limits (now (d .before .before .before .before .before .before .before .args .text)) (d .read-sheet .result) (read-into d)
+    (d .read-sheet .ensures) _ (c .before .before .before .before .before .before .before .found2 .given .1) in
     record {
       labels = k .0;
       gaps = k .1;
@@ -82,13 +87,15 @@ returns : tie.Need-returns
 returns c =
     let d = c .before .before .before .before .before .before .before .before .before .before .before .before in
     let s = d .before .before .before .before .before .before .before in
-    run-refused (now (s .args .text)) (d .read-sheet .result) (read-into d) (d .read-sheet .ensures) _ (c .before .before .before .before .before .found .given .1) (now (s .args .out)) _ _ (c .print .ensures)
+    run-refused (now (s .args .text)) (d .read-sheet .result) (read-into d) (d .read-sheet .ensures) _
+    (c .before .before .before .before .before .found .given .1) (now (s .args .out)) _ _ (c .print .ensures)
 
 returns-2 : tie.Need-returns-2
 returns-2 c =
     let d = c .before .before .before .before .before .before .before .before .before .before .before .before .before .before .before in
     let s = d .before .before .before .before .before .before .before in
-    run-read (now (s .args .text)) (d .read-sheet .result) (read-into d) (d .read-sheet .ensures) _ (c .before .before .before .before .before .before .before .before .found2 .given .1) (now (s .args .out)) _ _ (c .print-read .ensures)
+    run-read (now (s .args .text)) (d .read-sheet .result) (read-into d) (d .read-sheet .ensures) _
+    (c .before .before .before .before .before .before .before .before .found2 .given .1) (now (s .args .out)) _ _ (c .print-read .ensures)
 
 pub run-sheet-spec : {M : Type 1} → statement M
 run-sheet-spec =

@@ -3,7 +3,9 @@ use Prim.Native.Nat.{_<_}
 use mathlib.Core.Path.{_≡_}
 use mathlib.Core.Logic.{_⊎_}
 use native.Mathlib.Omega.{arith}
-use lib.IntN.{pos, negsuc, _*ℤ_}
+use lib.IntN.{ℤ, pos, negsuc, _*ℤ_}
+use lib.ListN.{replicate}
+use mathlib.Core.List.{List}
 use mir.Syntax.{w64}
 use mir.Val.{toZ, ofZ}
 use mir.ValLaws.{toZ-ofZ}
@@ -12,7 +14,8 @@ use borrow.Author.Needs.{needs}
 use Rattle.core_forest.specs.Tree.{Tree}
 use Rattle.core_elimination.specs.Block.{SumsInRange, Given, surplusAt}
 use Rattle.core_elimination.proofs.Ranges.{sums-read}
-use Rattle.core_forest.specs.Problem.{Problem, Limits, graphOf}
+use Rattle.core_forest.specs.Problem.{Problem, Limits, graphOf, problemNow}
+use Rattle.ground.specs.Limits.{labelsMost}
 use Rattle.core_advance.specs.Shares.{Shared}
 use Rattle.core_elimination.proofs.SearchedBlock.{limits-graph, block-ordered, block-listed, block-range, block-sums, surplus-light}
 use Rattle.core_advance.proofs.EndBlock.{shares-moderate, moderate-small, block-breakable}
@@ -21,16 +24,7 @@ use Rattle.core_advance.proofs.side.side.Tie as tie
 
 abbrev problem : tie.Start → Problem
 problem s =
-    record {
-      labels = s .args .labels;
-      gaps = s .args .gaps;
-      left = now (s .args .left);
-      right = now (s .args .right);
-      distance = now (s .args .distance);
-      kind = now (s .args .kind);
-      wanted = now (s .args .wanted);
-      weight = now (s .args .weight);
-    }
+    problemNow (s .args .labels) (s .args .gaps) (s .args .left) (s .args .right) (s .args .distance) (s .args .kind) (s .args .wanted) (s .args .weight)
 
 limits : (s : tie.Start) → Limits (problem s)
 limits s = s .pre .0
@@ -42,18 +36,22 @@ sign-read s = toZ-ofZ w64 (s .args .sign) (s .fits .sign)
 signed : (s : tie.Start) → (toZ w64 (ofZ w64 (s .args .sign)) ≡ pos 1) ⊎ (toZ w64 (ofZ w64 (s .args .sign)) ≡ negsuc 0)
 signed s = rw (sign-read s) (s .pre .3)
 
+-- what the arrays that are eliminated hold before anything is written
+abbrev none : List ℤ
+none = replicate labelsMost (pos 0)
+
 -- ---- what the calls leave
 
 tree-found : (c : tie.After-search-along) → Tree (graphOf (problem (c .before .before .before .before .before .before)) (now (c .before .before .before .before .before .before .args .mark))) (c .before .before .before .before .before .before .args .root .0) (c .search-along .result) (c .search-along .last .1 .1 .1 .1 .1 .1 .1 .1 .1 .1 .1 .0) (c .search-along .last .1 .1 .1 .1 .1 .1 .1 .1 .1 .1 .1 .1 .0) (c .search-along .last .1 .1 .1 .1 .1 .1 .1 .1 .1 .1 .1 .1 .1 .0) (c .search-along .last .1 .1 .1 .1 .1 .1 .1 .1 .1 .1 .1 .1 .1 .1 .0) (c .search-along .last .1 .1 .1 .1 .1 .1 .1 .1 .1 .1 .1 .1 .1 .1 .1 .0)
-tree-found c = c .search-along .ensures
+tree-found c = c .search-along .ensures .0
 
 sums-found : (c : tie.After-sums) → SumsInRange (c .sums .result)
 sums-found c = block-sums (limits (c .before .before .before .before .before .before .before .before .before)) (tree-found (c .before .before .before)) (c .sums .result) (c .sums .ensures .0) (c .sums .ensures .1)
 
-surplus-found : (c : tie.After-surplus) → Given (c .before .before .before .before .before .before .before .search-along .result) (c .before .before .before .before .before .before .before .search-along .last .1 .1 .1 .1 .1 .1 .1 .1 .1 .1 .1 .1 .0) (λ x. c .before .before .before .before .before .before .before .before .before .before .before .before .before .args .sign *ℤ surplusAt (c .before .before .before .before .sums .result) (c .before .before .before .before .before .before .before .search-along .last .1 .1 .1 .1 .1 .1 .1 .1 .1 .1 .1 .1 .1 .1 .1 .0) (now (c .before .before .before .before .before .before .before .before .before .before .before .before .before .args .wanted)) (now (c .before .before .before .before .before .before .before .before .before .before .before .before .before .args .weight)) x) (now (c .before .before .before .before .before .before .before .before .before .before .before .before .before .args .held)) (c .surplus .last .1 .1 .1 .1 .1 .1 .1 .0)
+surplus-found : (c : tie.After-surplus) → Given (c .before .before .before .before .before .before .before .search-along .result) (c .before .before .before .before .before .before .before .search-along .last .1 .1 .1 .1 .1 .1 .1 .1 .1 .1 .1 .1 .0) (λ x. c .before .before .before .before .before .before .before .before .before .before .before .before .before .args .sign *ℤ surplusAt (c .before .before .before .before .sums .result) (c .before .before .before .before .before .before .before .search-along .last .1 .1 .1 .1 .1 .1 .1 .1 .1 .1 .1 .1 .1 .1 .1 .0) (now (c .before .before .before .before .before .before .before .before .before .before .before .before .before .args .wanted)) (now (c .before .before .before .before .before .before .before .before .before .before .before .before .before .args .weight)) x) none (c .surplus .last .1 .1 .1 .1 .1 .1 .1 .0)
 surplus-found c = rw (sign-read (c .before .before .before .before .before .before .before .before .before .before .before .before .before)) at (c .surplus .ensures)
 
-shares-found : (c : tie.After-shared) → Shared (c .before .before .before .before .before .before .before .before .before .before .before .before .search-along .result) (c .before .before .before .before .before .before .before .before .before .before .before .before .search-along .last .1 .1 .1 .1 .1 .1 .1 .1 .1 .1 .1 .0) (c .before .before .before .before .before .before .before .before .before .before .before .before .search-along .last .1 .1 .1 .1 .1 .1 .1 .1 .1 .1 .1 .1 .0) (now (c .before .before .before .before .before .before .before .before .before .before .before .before .before .before .before .before .before .before .args .weight)) (c .before .before .before .before .before .before .before .before .before .before .before .before .before .before .before .before .before .before .args .other .0) (c .before .before .before .before .before .before .before .before .before .sums .result .weight) (c .shared .result) (now (c .before .before .before .before .before .before .before .before .before .before .before .before .before .before .before .before .before .before .args .share)) (c .shared .last .1 .1 .1 .1 .1 .1 .0)
+shares-found : (c : tie.After-shared) → Shared (c .before .before .before .before .before .before .before .before .before .before .before .before .search-along .result) (c .before .before .before .before .before .before .before .before .before .before .before .before .search-along .last .1 .1 .1 .1 .1 .1 .1 .1 .1 .1 .1 .0) (c .before .before .before .before .before .before .before .before .before .before .before .before .search-along .last .1 .1 .1 .1 .1 .1 .1 .1 .1 .1 .1 .1 .0) (now (c .before .before .before .before .before .before .before .before .before .before .before .before .before .before .before .before .before .before .args .weight)) (c .before .before .before .before .before .before .before .before .before .before .before .before .before .before .before .before .before .before .args .other .0) (c .before .before .before .before .before .before .before .before .before .sums .result .weight) (c .shared .result) none (c .shared .last .1 .1 .1 .1 .1 .1 .0)
 shares-found c = rw (sums-read (sums-found (c .before .before .before .before .before .before .before .before .before)) .0) at (c .shared .ensures)
 
 -- ---- what they ask
@@ -112,23 +110,33 @@ least-break-requires c κs =
 returns : tie.Need-returns
 returns c =
     let s = c .before .before .before .before .before .before .before .before .before .before .before .before .before .before .before .before .before .before .before .before .before .before .before .before .before .before .before .before .before .before .before .before .before .before .before in
+    let searched = c .before .before .before .before .before .before .before .before .before .before .before .before .before .before .before .before .before .before .before .before .before .before .before .before .before .before .before .before .before .search-along in
+    let sums = c .before .before .before .before .before .before .before .before .before .before .before .before .before .before .before .before .before .before .before .before .before .before .before .before .before .before .sums in
     let f = shares-found (c .before .before .before .before .before .before .before .before .before .before .before .before .before .before .before .before .before) in
     record {
-      tree = tree-found (c .before .before .before .before .before .before .before .before .before .before .before .before .before .before .before .before .before .before .before .before .before .before .before .before .before .before .before .before .before);
-      weight = c .before .before .before .before .before .before .before .before .before .before .before .before .before .before .before .before .before .before .before .before .before .before .before .before .before .before .sums .ensures .0;
-      wanted = c .before .before .before .before .before .before .before .before .before .before .before .before .before .before .before .before .before .before .before .before .before .before .before .before .before .before .sums .ensures .1;
-      joined = f .joined-is;
-      held₀ = now (s .args .held);
-      held₁ = c .before .before .before .before .before .before .before .before .before .before .before .before .before .before .before .before .before .before .before .before .before .before .surplus .last .1 .1 .1 .1 .1 .1 .1 .0;
-      surplus = surplus-found (c .before .before .before .before .before .before .before .before .before .before .before .before .before .before .before .before .before .before .before .before .before .before);
-      held-size = c .before .before .before .before .before .before .before .before .before .before .before .before .before .before .before .measured-labels .ensures;
-      held-is = c .before .before .before .before .before .before .before .before .before .before .before .eliminate .ensures;
-      share₀ = now (s .args .share);
-      share₁ = c .before .before .before .before .before .before .before .before .before .before .before .before .before .before .before .before .before .shared .last .1 .1 .1 .1 .1 .1 .0;
-      shares = f .given;
-      share-size = c .before .before .before .before .before .before .before .before .before .measured-labels2 .ensures;
-      share-is = c .before .before .before .before .before .eliminate2 .ensures;
-      first = rw (sign-read s) at (c .least-break .ensures);
+      at = searched .last .1 .1 .1 .1 .1 .1 .1 .1 .1 .1 .1 .0;
+      queue = searched .last .1 .1 .1 .1 .1 .1 .1 .1 .1 .1 .1 .1 .0;
+      off = searched .last .1 .1 .1 .1 .1 .1 .1 .1 .1 .1 .1 .1 .1 .1 .1 .0;
+      held = c .before .before .before .before .before .before .before .before .before .before .before .eliminate .last .1 .1 .1 .0;
+      share = c .before .before .before .before .before .eliminate2 .last .1 .1 .1 .0;
+      found =
+          record {
+            tree = tree-found (c .before .before .before .before .before .before .before .before .before .before .before .before .before .before .before .before .before .before .before .before .before .before .before .before .before .before .before .before .before);
+            weight = sums .ensures .0;
+            wanted = sums .ensures .1;
+            joined = f .joined-is;
+            held₀ = none;
+            held₁ = c .before .before .before .before .before .before .before .before .before .before .before .before .before .before .before .before .before .before .before .before .before .before .surplus .last .1 .1 .1 .1 .1 .1 .1 .0;
+            surplus = surplus-found (c .before .before .before .before .before .before .before .before .before .before .before .before .before .before .before .before .before .before .before .before .before .before);
+            held-size = c .before .before .before .before .before .before .before .before .before .before .before .before .before .before .before .measured-labels .ensures;
+            held-is = c .before .before .before .before .before .before .before .before .before .before .before .eliminate .ensures;
+            share₀ = none;
+            share₁ = c .before .before .before .before .before .before .before .before .before .before .before .before .before .before .before .before .before .shared .last .1 .1 .1 .1 .1 .1 .0;
+            shares = f .given;
+            share-size = c .before .before .before .before .before .before .before .before .before .measured-labels2 .ensures;
+            share-is = c .before .before .before .before .before .eliminate2 .ensures;
+            first = rw (sign-read s) at (c .least-break .ensures);
+          };
     }
 
 pub side-spec : {M : Type 1} → statement M

@@ -51,32 +51,32 @@ losing-end-requires c κs = gap-in (c .before .before .before .before .before .b
 
 returns-3 : tie.Need-returns-3
 returns-3 c =
-    let s = c .before .before .before .before .before .before .before .before in
-    other-end-read (s .args .sign) (now (s .args .queue)) (now (s .args .via)) (now (s .args .left)) (now (s .args .right)) (now (s .args .kind)) (now (s .args .held)) (now (s .args .share)) (s .args .k) (record { sfits = c .before .before .before .if22 .given }) (s .fits .sign) (c .before .losing-end .ensures) (c .if3 .taken)
+    let s = c .before .before .before .before .before .before .before .before .before in
+    other-end-read (s .args .sign) (now (s .args .queue)) (now (s .args .via)) (now (s .args .left)) (now (s .args .right)) (now (s .args .kind)) (now (s .args .held)) (now (s .args .share)) (s .args .k) (record { sfits = c .before .before .before .before .if22 .given }) (s .fits .sign) (c .before .before .losing-end .ensures) (c .if3 .taken)
 
 mul-t16 : tie.Need-mul-t16
-mul-t16 c = omega (arith, label-in (c .before .before .before .before .before .before .before .before))
+mul-t16 c = omega (arith, label-in (c .before .before .before .before .before .before .before .before .before))
 
 element-copy-out-t25 : tie.Need-element-copy-out-t25
-element-copy-out-t25 c = label-in (c .before .before .before .before .before .before .before .before)
+element-copy-out-t25 c = label-in (c .before .before .before .before .before .before .before .before .before)
 
 mul-t13 : tie.Need-mul-t13
-mul-t13 c = omega (arith, label-in (c .before .before .before .before .before .before .before .before .before))
+mul-t13 c = omega (arith, label-in (c .before .before .before .before .before .before .before .before .before .before))
 
 element-copy-out-t31 : tie.Need-element-copy-out-t31
-element-copy-out-t31 c = label-in (c .before .before .before .before .before .before .before .before .before)
+element-copy-out-t31 c = label-in (c .before .before .before .before .before .before .before .before .before .before)
 
 returns-4 : tie.Need-returns-4
 returns-4 c =
-    let s = c .before .before .before .before .before .before .before .before .before .before in
+    let s = c .before .before .before .before .before .before .before .before .before .before .before in
     point-read
     (s .args .sign) (now (s .args .queue)) (now (s .args .via)) (now (s .args .left)) (now (s .args .right)) (now (s .args .kind)) (now (s .args .held)) (now (s .args .share)) (s .args .k)
-    (record { sfits = c .before .before .before .before .before .if22 .given })
+    (record { sfits = c .before .before .before .before .before .before .if22 .given })
     (s .fits .sign)
-    (c .before .before .before .losing-end .ensures)
+    (c .before .before .before .before .losing-end .ensures)
     (record { sfits = c .before .t25 .given })
-    (c .before .before .before .before .before .before .if1 .left)
-    (c .before .before .before .before .if2 .left)
+    (c .before .before .before .before .before .before .before .if1 .left)
+    (c .before .before .before .before .before .if2 .left)
     (c .before .before .if3 .left)
 
 pub candidate-spec : {M : Type 1} → statement M

@@ -1,12 +1,14 @@
--- The places of a block. The invariant: the labels passed have their numerator and denominator. The measure is the number of labels left.
+-- The places of a block. The invariant: the labels passed have their numerator and denominator. The measure is the
+-- number of labels left.
 use mathlib.Core.Path.{refl, _≡_}
-use Prim.Native.Nat.{_-_}
+use Prim.Native.Nat.{_-_, _<_}
 use native.Mathlib.Omega.{arith}
 use borrow.Author.Needs.{needs}
 use mir.Syntax.{w64}
 use mir.Val.{toZ, ofZ}
 use Rattle.core_elimination.proofs.Ranges.{read-back, sums-read, numerator-small, numerator-fits}
 use Rattle.ground.specs.Entries.{nat, int}
+use Rattle.ground.specs.Limits.{labelsMost}
 use Rattle.core_elimination.proofs.Loops.{Filled, fill-none, fill-more, fill-all}
 use Rattle.core_elimination.specs.Block.{numerator}
 use Rattle.core_elimination.proofs.block.places.Statement.{statement}
@@ -17,6 +19,10 @@ Inv-loop count queue off s num₀ den₀ total k₀ num den k = Filled count que
 
 abbrev μ-loop : tie.MeasureT-loop
 μ-loop count queue off s num₀ den₀ total k₀ num den k = count - k
+
+-- the label of a turn is within the work arrays
+label-in : (t : tie.In-loop Inv-loop μ-loop) → nat (t .before .before .before .before .before .before .before .args .queue .now) (t .before .loop .k) < labelsMost
+label-in t = t .before .before .before .before .before .before .before .pre .0 .labels-in (t .before .loop .k) (t .loop-test .taken)
 
 measured-labels-requires : tie.Need-measured-labels-requires Inv-loop μ-loop
 measured-labels-requires c κs = search needs
@@ -34,10 +40,10 @@ element-copy-out-x : tie.Need-element-copy-out-x Inv-loop μ-loop
 element-copy-out-x c = omega arith
 
 mul-numerator-of : tie.Need-mul-numerator-of Inv-loop μ-loop
-mul-numerator-of c = omega (arith, c .before .before .before .before .before .before .before .before .pre .0 .labels-in (c .before .before .loop .k) (c .before .loop-test .taken))
+mul-numerator-of c = omega (arith, label-in (c .before))
 
 element-copy-out-numerator-of : tie.Need-element-copy-out-numerator-of Inv-loop μ-loop
-element-copy-out-numerator-of c = omega (arith, c .before .before .before .before .before .before .before .before .pre .0 .labels-in (c .before .before .loop .k) (c .before .loop-test .taken))
+element-copy-out-numerator-of c = omega (arith, label-in (c .before))
 
 numerator-of-requires : tie.Need-numerator-of-requires Inv-loop μ-loop
 numerator-of-requires c κs =
@@ -50,16 +56,16 @@ numerator-of-requires c κs =
     rw (e, sums-read i .0, sums-read i .1) (numerator-fits i o (s .pre .2 k h))
 
 mul-t17 : tie.Need-mul-t17 Inv-loop μ-loop
-mul-t17 c = omega (arith, c .before .before .before .before .before .before .before .before .before .before .before .pre .0 .labels-in (c .before .before .before .before .before .loop .k) (c .before .before .before .before .loop-test .taken))
+mul-t17 c = omega (arith, label-in (c .before .before .before .before))
 
 element-set-from-num : tie.Need-element-set-from-num Inv-loop μ-loop
-element-set-from-num c = omega (arith, c .before .before .before .before .before .before .before .before .before .before .before .pre .0 .labels-in (c .before .before .before .before .before .loop .k) (c .before .before .before .before .loop-test .taken))
+element-set-from-num c = omega (arith, label-in (c .before .before .before .before))
 
 mul-total : tie.Need-mul-total Inv-loop μ-loop
-mul-total c = omega (arith, c .before .before .before .before .before .before .before .before .before .before .before .pre .0 .labels-in (c .before .before .before .before .before .loop .k) (c .before .before .before .before .loop-test .taken))
+mul-total c = omega (arith, label-in (c .before .before .before .before))
 
 element-set-from-total : tie.Need-element-set-from-total Inv-loop μ-loop
-element-set-from-total c = omega (arith, c .before .before .before .before .before .before .before .before .before .before .before .pre .0 .labels-in (c .before .before .before .before .before .loop .k) (c .before .before .before .before .loop-test .taken))
+element-set-from-total c = omega (arith, label-in (c .before .before .before .before))
 
 add-k : tie.Need-add-k Inv-loop μ-loop
 add-k c = omega arith

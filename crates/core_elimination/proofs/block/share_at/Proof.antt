@@ -1,4 +1,5 @@
--- The whole share for one label. The invariant: the labels passed hold the share or nothing. The measure is the number of labels left.
+-- The whole share for one label. The invariant: the labels passed hold the share or nothing. The measure is the
+-- number of labels left.
 use mathlib.Core.Logic.{⊎-elim}
 use Prim.Native.Nat.{_-_}
 use native.Mathlib.Omega.{arith}

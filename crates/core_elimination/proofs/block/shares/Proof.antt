@@ -1,4 +1,5 @@
--- The weights as shares. The invariant: the labels passed hold their weight. The measure is the number of labels left.
+-- The weights as shares. The invariant: the labels passed hold their weight. The measure is the number of labels
+-- left.
 use mathlib.Core.Path.{_≡_}
 use Prim.Native.Nat.{_-_}
 use native.Mathlib.Omega.{arith}

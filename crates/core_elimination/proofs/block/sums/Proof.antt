@@ -1,6 +1,7 @@
--- The sums over a block. The invariant: each sum is that over the labels passed. The measure is the number of labels left.
+-- The sums over a block. The invariant: each sum is that over the labels passed. The measure is the number of labels
+-- left.
 use mathlib.Core.Path.{refl, sym, _∙_, ap, _≡_}
-use Prim.Native.Nat.{ℕ, _-_, _≤_}
+use Prim.Native.Nat.{ℕ, _-_, _≤_, _<_}
 use native.Mathlib.Omega.{arith}
 use borrow.Author.Needs.{needs}
 use lib.IntN.{_-ℤ_, _*ℤ_}
@@ -10,6 +11,7 @@ use Rattle.algebra.proofs.Sum.{sum-none}
 use Rattle.core_elimination.proofs.Loops.{sum-more}
 use Rattle.core_elimination.proofs.Ranges.{fits-small, read-back, label-read, gap-small, moment-small, weightSum-fits, wantedSum-fits}
 use Rattle.ground.specs.Entries.{nat, int}
+use Rattle.ground.specs.Limits.{labelsMost}
 use Rattle.core_elimination.specs.Block.{weightSum, wantedSum}
 use Rattle.core_elimination.proofs.block.sums.Statement.{statement}
 use Rattle.core_elimination.proofs.block.sums.Tie as tie
@@ -19,6 +21,10 @@ Inv-loop count queue off wanted weight total₀ moment₀ k₀ total moment k = 
 
 abbrev μ-loop : tie.MeasureT-loop
 μ-loop count queue off wanted weight total₀ moment₀ k₀ total moment k = count - k
+
+-- the label of a turn is within the work arrays
+label-in : (t : tie.In-loop Inv-loop μ-loop) → nat (t .before .before .args .queue .now) (t .before .loop .k) < labelsMost
+label-in t = t .before .before .pre .0 .labels-in (t .before .loop .k) (t .loop-test .taken)
 
 loop-holds : tie.Need-loop-holds Inv-loop μ-loop
 loop-holds c = (omega arith, sym (sum-none _), sym (sum-none _))
@@ -30,10 +36,10 @@ element-copy-out-x : tie.Need-element-copy-out-x Inv-loop μ-loop
 element-copy-out-x c = omega arith
 
 mul-plus : tie.Need-mul-plus Inv-loop μ-loop
-mul-plus c = omega (arith, c .before .before .before .pre .0 .labels-in (c .before .before .loop .k) (c .before .loop-test .taken))
+mul-plus c = omega (arith, label-in (c .before))
 
 element-copy-out-plus : tie.Need-element-copy-out-plus Inv-loop μ-loop
-element-copy-out-plus c = omega (arith, c .before .before .before .pre .0 .labels-in (c .before .before .loop .k) (c .before .loop-test .taken))
+element-copy-out-plus c = omega (arith, label-in (c .before))
 
 plus-requires : tie.Need-plus-requires Inv-loop μ-loop
 plus-requires c κs =
@@ -45,22 +51,22 @@ plus-requires c κs =
     rw (c .before .before .before .loop .inv .1, e .0) (weightSum-fits r k h (omega arith))
 
 mul-moment-of : tie.Need-mul-moment-of Inv-loop μ-loop
-mul-moment-of c = omega (arith, c .before .before .before .before .before .pre .0 .labels-in (c .before .before .before .before .loop .k) (c .before .before .before .loop-test .taken))
+mul-moment-of c = omega (arith, label-in (c .before .before .before))
 
 element-copy-out-moment-of : tie.Need-element-copy-out-moment-of Inv-loop μ-loop
-element-copy-out-moment-of c = omega (arith, c .before .before .before .before .before .pre .0 .labels-in (c .before .before .before .before .loop .k) (c .before .before .before .loop-test .taken))
+element-copy-out-moment-of c = omega (arith, label-in (c .before .before .before))
 
 mul-moment-of-2 : tie.Need-mul-moment-of-2 Inv-loop μ-loop
-mul-moment-of-2 c = omega (arith, c .before .before .before .before .before .before .pre .0 .labels-in (c .before .before .before .before .before .loop .k) (c .before .before .before .before .loop-test .taken))
+mul-moment-of-2 c = omega (arith, label-in (c .before .before .before .before))
 
 element-copy-out-moment-of-2 : tie.Need-element-copy-out-moment-of-2 Inv-loop μ-loop
-element-copy-out-moment-of-2 c = omega (arith, c .before .before .before .before .before .before .pre .0 .labels-in (c .before .before .before .before .before .loop .k) (c .before .before .before .before .loop-test .taken))
+element-copy-out-moment-of-2 c = omega (arith, label-in (c .before .before .before .before))
 
 mul-moment-of-3 : tie.Need-mul-moment-of-3 Inv-loop μ-loop
-mul-moment-of-3 c = omega (arith, c .before .before .before .before .before .before .before .pre .0 .labels-in (c .before .before .before .before .before .before .loop .k) (c .before .before .before .before .before .loop-test .taken))
+mul-moment-of-3 c = omega (arith, label-in (c .before .before .before .before .before))
 
 element-copy-out-moment-of-3 : tie.Need-element-copy-out-moment-of-3 Inv-loop μ-loop
-element-copy-out-moment-of-3 c = omega (arith, c .before .before .before .before .before .before .before .pre .0 .labels-in (c .before .before .before .before .before .before .loop .k) (c .before .before .before .before .before .loop-test .taken))
+element-copy-out-moment-of-3 c = omega (arith, label-in (c .before .before .before .before .before))
 
 moment-of-requires : tie.Need-moment-of-requires Inv-loop μ-loop
 moment-of-requires c κs =

@@ -1,6 +1,7 @@
--- The surplus of each label. The invariant: the labels passed hold it, times the sign. The measure is the number of labels left.
+-- The surplus of each label. The invariant: the labels passed hold it, times the sign. The measure is the number of
+-- labels left.
 use mathlib.Core.Path.{refl, _∙_, ap, _≡_}
-use Prim.Native.Nat.{_-_}
+use Prim.Native.Nat.{_-_, _<_, ℕ}
 use native.Mathlib.Omega.{arith}
 use borrow.Author.Needs.{needs}
 use lib.IntN.{ℤ, _-ℤ_, _*ℤ_}
@@ -10,6 +11,7 @@ use mir.ValLaws.{toZ-ofZ}
 use Rattle.core_elimination.specs.Block.{numerator, surplusAt}
 use Rattle.core_elimination.proofs.Ranges.{fits-small, read-back, label-read, sums-read, numerator-small, numerator-fits, lack-small, lack-fits, surplus-small, surplus-fits, signed-small}
 use Rattle.ground.specs.Entries.{nat, int}
+use Rattle.ground.specs.Limits.{labelsMost}
 use Rattle.core_elimination.proofs.Loops.{Filled, fill-none, fill-more, fill-all}
 use Rattle.core_elimination.proofs.block.surplus.Statement.{statement}
 use Rattle.core_elimination.proofs.block.surplus.Tie as tie
@@ -20,15 +22,25 @@ Inv-loop count queue off wanted weight s sign held₀ k₀ held k = Filled count
 abbrev μ-loop : tie.MeasureT-loop
 μ-loop count queue off wanted weight s sign held₀ k₀ held k = count - k
 
--- what the label of a turn is given: the numerator of its place, its distance from the wanted one, its surplus
-abbrev numeratorOf : (t : tie.In-loop Inv-loop μ-loop) → ℤ
-numeratorOf t = numerator (t .before .before .before .before .args .s) (t .before .before .before .before .args .off .now) (nat (t .before .before .before .before .args .queue .now) (t .before .loop .k))
+abbrev entry : tie.In-loop Inv-loop μ-loop → tie.Start Inv-loop μ-loop
+entry t = t .before .before .before .before
 
-abbrev lackOf : (t : tie.In-loop Inv-loop μ-loop) → ℤ
-lackOf t = numeratorOf t -ℤ int (t .before .before .before .before .args .wanted .now) (nat (t .before .before .before .before .args .queue .now) (t .before .loop .k)) *ℤ t .before .before .before .before .args .s .weight
+-- the label of a turn, which is within the work arrays
+abbrev labelOf : tie.In-loop Inv-loop μ-loop → ℕ
+labelOf t = nat (entry t .args .queue .now) (t .before .loop .k)
 
-abbrev surplusOf : (t : tie.In-loop Inv-loop μ-loop) → ℤ
-surplusOf t = surplusAt (t .before .before .before .before .args .s) (t .before .before .before .before .args .off .now) (t .before .before .before .before .args .wanted .now) (t .before .before .before .before .args .weight .now) (nat (t .before .before .before .before .args .queue .now) (t .before .loop .k))
+label-in : (t : tie.In-loop Inv-loop μ-loop) → labelOf t < labelsMost
+label-in t = entry t .pre .0 .labels-in (t .before .loop .k) (t .loop-test .taken)
+
+-- what it is given: the numerator of its place, its distance from the wanted one, its surplus
+abbrev numeratorOf : tie.In-loop Inv-loop μ-loop → ℤ
+numeratorOf t = numerator (entry t .args .s) (entry t .args .off .now) (labelOf t)
+
+abbrev lackOf : tie.In-loop Inv-loop μ-loop → ℤ
+lackOf t = numeratorOf t -ℤ int (entry t .args .wanted .now) (labelOf t) *ℤ entry t .args .s .weight
+
+abbrev surplusOf : tie.In-loop Inv-loop μ-loop → ℤ
+surplusOf t = surplusAt (entry t .args .s) (entry t .args .off .now) (entry t .args .wanted .now) (entry t .args .weight .now) (labelOf t)
 
 measured-labels-requires : tie.Need-measured-labels-requires Inv-loop μ-loop
 measured-labels-requires c κs = search needs
@@ -43,10 +55,10 @@ element-copy-out-x : tie.Need-element-copy-out-x Inv-loop μ-loop
 element-copy-out-x c = omega arith
 
 mul-numerator-of : tie.Need-mul-numerator-of Inv-loop μ-loop
-mul-numerator-of c = omega (arith, c .before .before .before .before .before .pre .0 .labels-in (c .before .before .loop .k) (c .before .loop-test .taken))
+mul-numerator-of c = omega (arith, label-in (c .before))
 
 element-copy-out-numerator-of : tie.Need-element-copy-out-numerator-of Inv-loop μ-loop
-element-copy-out-numerator-of c = omega (arith, c .before .before .before .before .before .pre .0 .labels-in (c .before .before .loop .k) (c .before .loop-test .taken))
+element-copy-out-numerator-of c = omega (arith, label-in (c .before))
 
 numerator-of-requires : tie.Need-numerator-of-requires Inv-loop μ-loop
 numerator-of-requires c κs =
@@ -62,13 +74,19 @@ place-read c =
     let k = c .before .before .before .before .before .before .loop .k in
     let h = c .before .before .before .before .before .loop-test .taken in
     let small = numerator-small (s .pre .2) (int (s .args .off .now) (nat (s .args .queue .now) k)) (s .pre .1 .off-most k h) in
-    rw (c .numerator-of .ensures, label-read (s .pre .1) k h .2, sums-read (s .pre .2) .0, sums-read (s .pre .2) .1, read-back (numeratorOf (c .before .before .before .before .before)) small (omega arith)) refl
+    rw (
+      c .numerator-of .ensures,
+      label-read (s .pre .1) k h .2,
+      sums-read (s .pre .2) .0,
+      sums-read (s .pre .2) .1,
+      read-back (numeratorOf (c .before .before .before .before .before)) small (omega arith),
+    ) refl
 
 mul-lack-of : tie.Need-mul-lack-of Inv-loop μ-loop
-mul-lack-of c = omega (arith, c .before .before .before .before .before .before .before .before .before .pre .0 .labels-in (c .before .before .before .before .before .before .loop .k) (c .before .before .before .before .before .loop-test .taken))
+mul-lack-of c = omega (arith, label-in (c .before .before .before .before .before))
 
 element-copy-out-lack-of : tie.Need-element-copy-out-lack-of Inv-loop μ-loop
-element-copy-out-lack-of c = omega (arith, c .before .before .before .before .before .before .before .before .before .pre .0 .labels-in (c .before .before .before .before .before .before .loop .k) (c .before .before .before .before .before .loop-test .taken))
+element-copy-out-lack-of c = omega (arith, label-in (c .before .before .before .before .before))
 
 lack-of-requires : tie.Need-lack-of-requires Inv-loop μ-loop
 lack-of-requires c κs =
@@ -83,13 +101,19 @@ lack-read c =
     let k = c .before .before .before .before .before .before .before .before .before .loop .k in
     let h = c .before .before .before .before .before .before .before .before .loop-test .taken in
     let small = lack-small (s .pre .1) (s .pre .2) k h in
-    rw (c .lack-of .ensures, place-read (c .before .before .before), label-read (s .pre .1) k h .1, sums-read (s .pre .2) .0, read-back (lackOf (c .before .before .before .before .before .before .before .before)) small (omega arith)) refl
+    rw (
+      c .lack-of .ensures,
+      place-read (c .before .before .before),
+      label-read (s .pre .1) k h .1,
+      sums-read (s .pre .2) .0,
+      read-back (lackOf (c .before .before .before .before .before .before .before .before)) small (omega arith),
+    ) refl
 
 mul-surplus-of : tie.Need-mul-surplus-of Inv-loop μ-loop
-mul-surplus-of c = omega (arith, c .before .before .before .before .before .before .before .before .before .before .before .before .pre .0 .labels-in (c .before .before .before .before .before .before .before .before .before .loop .k) (c .before .before .before .before .before .before .before .before .loop-test .taken))
+mul-surplus-of c = omega (arith, label-in (c .before .before .before .before .before .before .before .before))
 
 element-copy-out-surplus-of : tie.Need-element-copy-out-surplus-of Inv-loop μ-loop
-element-copy-out-surplus-of c = omega (arith, c .before .before .before .before .before .before .before .before .before .before .before .before .pre .0 .labels-in (c .before .before .before .before .before .before .before .before .before .loop .k) (c .before .before .before .before .before .before .before .before .loop-test .taken))
+element-copy-out-surplus-of c = omega (arith, label-in (c .before .before .before .before .before .before .before .before))
 
 surplus-of-requires : tie.Need-surplus-of-requires Inv-loop μ-loop
 surplus-of-requires c κs =
@@ -104,7 +128,12 @@ surplus-read c =
     let k = c .before .before .before .before .before .before .before .before .before .before .before .loop .k in
     let h = c .before .before .before .before .before .before .before .before .before .before .loop-test .taken in
     let small = surplus-small (s .pre .1) (s .pre .2) k h in
-    rw (c .surplus-of .ensures, label-read (s .pre .1) k h .0, lack-read (c .before .before), read-back (surplusOf (c .before .before .before .before .before .before .before .before .before .before)) small (omega arith)) refl
+    rw (
+      c .surplus-of .ensures,
+      label-read (s .pre .1) k h .0,
+      lack-read (c .before .before),
+      read-back (surplusOf (c .before .before .before .before .before .before .before .before .before .before)) small (omega arith),
+    ) refl
 
 signed-requires : tie.Need-signed-requires Inv-loop μ-loop
 signed-requires c κs =
@@ -115,10 +144,10 @@ signed-requires c κs =
     rw (toZ-ofZ w64 (s .args .sign) (s .fits .sign), surplus-read c) (fits-small _ (omega (arith, small)))
 
 mul-t19 : tie.Need-mul-t19 Inv-loop μ-loop
-mul-t19 c = omega (arith, c .before .before .before .before .before .before .before .before .before .before .before .before .before .before .before .pre .0 .labels-in (c .before .before .before .before .before .before .before .before .before .before .before .before .loop .k) (c .before .before .before .before .before .before .before .before .before .before .before .loop-test .taken))
+mul-t19 c = omega (arith, label-in (c .before .before .before .before .before .before .before .before .before .before .before))
 
 element-set-from-held : tie.Need-element-set-from-held Inv-loop μ-loop
-element-set-from-held c = omega (arith, c .before .before .before .before .before .before .before .before .before .before .before .before .before .before .before .pre .0 .labels-in (c .before .before .before .before .before .before .before .before .before .before .before .before .loop .k) (c .before .before .before .before .before .before .before .before .before .before .before .loop-test .taken))
+element-set-from-held c = omega (arith, label-in (c .before .before .before .before .before .before .before .before .before .before .before))
 
 add-k : tie.Need-add-k Inv-loop μ-loop
 add-k c = omega arith

@@ -1,4 +1,5 @@
--- The needs are answered in place, with no name of an operator: a changed operator is refused at the fact that it makes false.
+-- The needs are answered in place, with no name of an operator: a changed operator is refused at the fact that it
+-- makes false.
 use borrow.Author.Needs.{needs}
 use Rattle.core_elimination.proofs.block.surplus_of.Statement.{statement}
 use Rattle.core_elimination.proofs.block.surplus_of.Tie as tie

@@ -5,6 +5,9 @@ use Rattle.core_guess.proofs.Doubles.{small-double}
 use Rattle.core_guess.proofs.guess.double.Statement.{statement}
 use Rattle.core_guess.proofs.guess.double.Tie as tie
 
+sub-if1 : tie.Need-sub-if1
+sub-if1 c = search needs
+
 returns : tie.Need-returns
 returns c = search needs
 
@@ -18,4 +21,4 @@ returns-3 : tie.Need-returns-3
 returns-3 c = search needs
 
 pub double-spec : {M : Type 1} → statement M
-double-spec = tie.close (tie.spec returns returns-2 int-to-float-result returns-3)
+double-spec = tie.close (tie.spec sub-if1 returns returns-2 int-to-float-result returns-3)

@@ -7,13 +7,13 @@ use Rattle.core_guess.proofs.guess.double.Reads as double-reads
 use Rattle.ground.proofs.bytes.wide.Reads as wide-reads
 
 abbrev Inv-loop : tie.InvT-loop
-Inv-loop labels den block total₀ i₀ total i = (i ≤ labels) × (labels ≤ 48)
+Inv-loop labels weight block total₀ i₀ total i = i ≤ labels
 
 abbrev μ-loop : tie.MeasureT-loop
-μ-loop labels den block total₀ i₀ total i = labels - i
+μ-loop labels weight block total₀ i₀ total i = labels - i
 
 loop-holds : tie.Need-loop-holds Inv-loop μ-loop
-loop-holds c = (omega arith, c .pre)
+loop-holds c = omega arith
 
 element-copy-out-wide : tie.Need-element-copy-out-wide Inv-loop μ-loop
 element-copy-out-wide c = omega arith
@@ -43,7 +43,7 @@ loop-less : tie.Need-loop-less Inv-loop μ-loop
 loop-less c = omega arith
 
 loop-again : tie.Need-loop-again Inv-loop μ-loop
-loop-again c = (omega arith, omega arith)
+loop-again c = omega arith
 
 returns : tie.Need-returns Inv-loop μ-loop
 returns c = tt

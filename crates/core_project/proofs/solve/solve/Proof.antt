@@ -1,5 +1,8 @@
 -- `core_project::solve::solve` meets its contract: where every gap holds under the proposed marks, their balance is the answer;
 -- otherwise they are settled, and the settled forest is in balance (`finish`).
+use Prim.Native.Nat.{ℕ}
+use mathlib.Core.List.{List}
+use lib.IntN.{ℤ}
 use denote.Ref.{now}
 use Rattle.core_forest.specs.Problem.{Problem, Limits}
 use Rattle.core_standing.specs.Standing.{Standing}
@@ -27,29 +30,49 @@ limits s = s .pre
 
 -- ---- what the proposal leaves
 
-proposed : (c : tie.After-propose) → Proposed (problem (c .before .before .before .before .before .before .before .before .before .before .before .before .before)) (c .propose .last .1 .1 .1 .1 .1 .1 .1 .1 .1 .0) (c .propose .last .1 .1 .1 .1 .1 .1 .1 .1 .1 .1 .1 .1 .1 .1 .1 .1 .1 .0) (c .propose .last .1 .1 .1 .1 .1 .1 .1 .1 .1 .1 .1 .1 .1 .1 .1 .1 .1 .1 .0) (c .propose .last .1 .1 .1 .1 .1 .1 .1 .1 .1 .1 .1 .1 .1 .1 .1 .1 .1 .1 .1 .0) (c .propose .last .1 .1 .1 .1 .1 .1 .1 .1 .1 .1 .1 .1 .1 .1 .1 .1 .1 .1 .1 .1 .0)
+abbrev start : tie.After-propose → tie.Start
+start c = c .before .before .before .before .before .before
+
+abbrev mark : tie.After-propose → List ℕ
+mark c = c .propose .last .1 .1 .1 .1 .1 .1 .1 .1 .1 .0
+
+abbrev num : tie.After-propose → List ℤ
+num c = c .propose .last .1 .1 .1 .1 .1 .1 .1 .1 .1 .1 .0
+
+abbrev den : tie.After-propose → List ℤ
+den c = c .propose .last .1 .1 .1 .1 .1 .1 .1 .1 .1 .1 .1 .0
+
+abbrev load : tie.After-propose → List ℤ
+load c = c .propose .last .1 .1 .1 .1 .1 .1 .1 .1 .1 .1 .1 .1 .0
+
+abbrev over : tie.After-propose → List ℤ
+over c = c .propose .last .1 .1 .1 .1 .1 .1 .1 .1 .1 .1 .1 .1 .1 .0
+
+proposed : (c : tie.After-propose) → Proposed (problem (start c)) (mark c) (num c) (den c) (load c) (over c)
 proposed c = c .propose .ensures .0
 
-proposed-stands : (c : tie.After-propose) → Standing (problem (c .before .before .before .before .before .before .before .before .before .before .before .before .before)) (c .propose .last .1 .1 .1 .1 .1 .1 .1 .1 .1 .0) (c .propose .last .1 .1 .1 .1 .1 .1 .1 .1 .1 .1 .1 .1 .1 .1 .1 .1 .1 .0) (c .propose .last .1 .1 .1 .1 .1 .1 .1 .1 .1 .1 .1 .1 .1 .1 .1 .1 .1 .1 .0) (c .propose .last .1 .1 .1 .1 .1 .1 .1 .1 .1 .1 .1 .1 .1 .1 .1 .1 .1 .1 .1 .0) (c .propose .last .1 .1 .1 .1 .1 .1 .1 .1 .1 .1 .1 .1 .1 .1 .1 .1 .1 .1 .1 .1 .0)
-proposed-stands c = standing.standing (c .propose .last .1 .1 .1 .1 .1 .1 .1 .1 .1 .1 .1 .1 .1 .1 .1 .1 .1 .0) (c .propose .last .1 .1 .1 .1 .1 .1 .1 .1 .1 .1 .1 .1 .1 .1 .1 .1 .1 .1 .0) (c .propose .last .1 .1 .1 .1 .1 .1 .1 .1 .1 .1 .1 .1 .1 .1 .1 .1 .1 .1 .1 .0) (c .propose .last .1 .1 .1 .1 .1 .1 .1 .1 .1 .1 .1 .1 .1 .1 .1 .1 .1 .1 .1 .1 .0) (proposed c .start) (proposed c .balanced)
+proposed-stands : (c : tie.After-propose) → Standing (problem (start c)) (mark c) (num c) (den c) (load c) (over c)
+proposed-stands c = standing.standing (num c) (den c) (load c) (over c) (proposed c .start) (proposed c .balanced)
 
 -- ---- what the calls ask
 
 propose-requires : tie.Need-propose-requires
-propose-requires c κs = limits (c .before .before .before .before .before .before .before .before .before .before .before .before)
+propose-requires c κs = limits (c .before .before .before .before .before)
 
 settle-requires : tie.Need-settle-requires
-settle-requires c κs = (limits (c .before .before .before .before .before .before .before .before .before .before .before .before .before .before .before .before .before .before .before .before .before .before .before .before .before .before .before .before), proposed-stands (c .before .before .before .before .before .before .before .before .before .before .before .before .before .before .before))
+settle-requires c κs = let o = c .before .before .before .before .before .before .before .before in (limits (start o), proposed-stands o)
 
 -- ---- what is returned
 
 returns : tie.Need-returns
 returns c =
     let o = c .before in
-    finish (problem (o .before .before .before .before .before .before .before .before .before .before .before .before .before)) (o .propose .last .1 .1 .1 .1 .1 .1 .1 .1 .1 .0) (o .propose .last .1 .1 .1 .1 .1 .1 .1 .1 .1 .1 .1 .1 .1 .1 .1 .1 .1 .0) (o .propose .last .1 .1 .1 .1 .1 .1 .1 .1 .1 .1 .1 .1 .1 .1 .1 .1 .1 .1 .0) (o .propose .last .1 .1 .1 .1 .1 .1 .1 .1 .1 .1 .1 .1 .1 .1 .1 .1 .1 .1 .1 .0) (o .propose .last .1 .1 .1 .1 .1 .1 .1 .1 .1 .1 .1 .1 .1 .1 .1 .1 .1 .1 .1 .1 .0) (limits (o .before .before .before .before .before .before .before .before .before .before .before .before .before)) (proposed-stands o) (o .propose .ensures .1 (c .if1 .taken))
+    finish (problem (start o)) (mark o) (num o) (den o) (load o) (over o) (limits (start o)) (proposed-stands o) (o .propose .ensures .1 (c .if1 .taken))
 
 returns-2 : tie.Need-returns-2
-returns-2 c = core-says (problem (c .before .before .before .before .before .before .before .before .before .before .before .before .before .before .before .before .before .before .before .before .before .before .before .before .before .before .before .before .before)) (c .settle .result) (c .settle .last .1 .1 .1 .1 .1 .1 .0) (c .settle .last .1 .1 .1 .1 .1 .1 .1 .1 .1 .0) (c .settle .last .1 .1 .1 .1 .1 .1 .1 .1 .1 .1 .0) (c .settle .last .1 .1 .1 .1 .1 .1 .1 .1 .1 .1 .1 .1 .1 .1 .1 .1 .1 .1 .1 .1 .0) (c .settle .last .1 .1 .1 .1 .1 .1 .1 .1 .1 .1 .1 .1 .1 .1 .1 .1 .1 .1 .1 .1 .1 .0) (c .settle .last .1 .1 .1 .1 .1 .1 .1 .1 .1 .1 .1 .0) (c .settle .last .1 .1 .1 .1 .1 .1 .1 .1 .1 .1 .1 .1 .0) (limits (c .before .before .before .before .before .before .before .before .before .before .before .before .before .before .before .before .before .before .before .before .before .before .before .before .before .before .before .before .before)) (c .settle .ensures)
+returns-2 c =
+    let s = start (c .before .before .before .before .before .before .before .before .before) in
+    core-says (problem s) (c .settle .result) (c .settle .last .1 .1 .1 .1 .1 .1 .0) (c .settle .last .1 .1 .1 .1 .1 .1 .1 .1 .1 .0) (c .settle .last .1 .1 .1 .1 .1 .1 .1 .1 .1 .1 .0) (c .settle .last .1 .1 .1 .1 .1 .1 .1 .1 .1 .1 .1 .1 .1 .0) (c .settle .last .1 .1 .1 .1 .1 .1 .1 .1 .1 .1 .1 .1 .1 .1 .0) (c .settle .last .1 .1 .1 .1 .1 .1 .1 .1 .1 .1 .1 .0) (c .settle .last .1 .1 .1 .1 .1 .1 .1 .1 .1 .1 .1 .1 .0) (limits s) (c .settle .ensures)
 
 pub solve-spec : {M : Type 1} → statement M
 solve-spec =

@@ -21,11 +21,11 @@ use Rattle.core_settle.proofs.raise.raise.Statement.{statement}
 use Rattle.core_settle.proofs.raise.raise.Tie as tie
 
 abbrev Inv-loop : tie.InvT-loop
-Inv-loop labels gaps c a b h left right distance kind mark₀ wanted weight at₀ queue₀ via₀ up₀ off₀ held₀ share₀ den₀ load₀ over₀ out-head out-next in-head in-next mark at queue via up off held share den load over =
+Inv-loop labels gaps c a b h left right distance kind mark₀ wanted weight via₀ up₀ den₀ load₀ over₀ out-head out-next in-head in-next mark via up den load over =
     Raising (record { labels = labels; gaps = gaps; left = left; right = right; distance = distance; kind = kind; wanted = wanted; weight = weight }) (a .0) (b .0) (toZ w64 h) mark₀ mark × Chained gaps left mark out-head out-next × Chained gaps right mark in-head in-next × Remarked left right mark₀ den₀ load₀ over₀ mark den load over
 
 abbrev μ-loop : tie.MeasureT-loop
-μ-loop labels gaps c a b h left right distance kind mark₀ wanted weight at₀ queue₀ via₀ up₀ off₀ held₀ share₀ den₀ load₀ over₀ out-head out-next in-head in-next mark at queue via up off held share den load over =
+μ-loop labels gaps c a b h left right distance kind mark₀ wanted weight via₀ up₀ den₀ load₀ over₀ out-head out-next in-head in-next mark via up den load over =
     ones gaps mark
 
 -- the sheet as it is lent
@@ -41,10 +41,10 @@ same-asked c = search needs
 
 -- what the call gives, for its outcome
 abbrev GivesAt : tie.After-advance Inv-loop μ-loop → Outcome → Type 0
-GivesAt c o = Gives (sheet (c .before .before .before .before .before .before .before .before .before .before .before .before .before .before .before .before .before .before .before .before .before .before)) (c .before .before .before .before .before .before .before .before .before .before .before .before .before .loop .mark) (c .before .before .before .before .before .before .before .before .before .before .before .before .before .before .before .before .before .before .before .before .before .before .args .a .0) (c .before .before .before .before .before .before .before .before .before .before .before .before .before .before .before .before .before .before .before .before .before .before .args .b .0) (asked (c .before .before .before .before .before .before .before .before .before .before .before .before .before .before .before .before .before .before .before .before .before .before)) o (c .advance .last .1 .1 .1 .1 .1 .1 .1 .1 .1 .1 .1 .1 .1 .1 .1 .1 .0) (c .advance .last .1 .1 .1 .1 .1 .1 .1 .1 .1 .1 .1 .1 .1 .1 .1 .1 .1 .0) (c .advance .last .1 .1 .1 .1 .1 .1 .1 .1 .1 .1 .1 .1 .1 .1 .1 .1 .1 .1 .0) (c .advance .last .1 .1 .1 .1 .1 .1 .1 .1 .1 .1 .1 .1 .1 .1 .1 .1 .1 .1 .1 .0) (c .advance .last .1 .1 .1 .1 .1 .1 .1 .1 .1 .1 .1 .1 .1 .1 .1 .1 .1 .1 .1 .1 .0)
+GivesAt c o = Gives (sheet (c .before .before .before .before .before .before .before .before .before .before .before .before .before .before .before .before .before)) (c .before .before .before .before .before .before .before .before .loop .mark) (c .before .before .before .before .before .before .before .before .before .before .before .before .before .before .before .before .before .args .a .0) (c .before .before .before .before .before .before .before .before .before .before .before .before .before .before .before .before .before .args .b .0) (asked (c .before .before .before .before .before .before .before .before .before .before .before .before .before .before .before .before .before)) o (c .advance .last .1 .1 .1 .1 .1 .1 .1 .1 .1 .1 .1 .1 .1 .1 .1 .1 .0) (c .advance .last .1 .1 .1 .1 .1 .1 .1 .1 .1 .1 .1 .1 .1 .1 .1 .1 .1 .0)
 
 found : (c : tie.After-advance Inv-loop μ-loop) → GivesAt c (c .advance .result)
-found c = c .advance .ensures
+found c = c .advance .ensures .0
 
 dropped : (c : tie.After-known-told Inv-loop μ-loop) → GivesAt (c .before .before .before) (Dropped (c .before .outcome .given .0 .0))
 dropped c = subst (GivesAt (c .before .before .before)) (c .before .outcome .given .1) (found (c .before .before .before))
@@ -69,7 +69,7 @@ loop-holds c =
     (raising-start (sheet s) (s .args .a .0) (s .args .b .0) (asked s) (s .args .mark .now) (c .before .before .before .before .before .before .measured-gap-bytes .ensures), c .chain .ensures .0, c .chain .ensures .1, remarked-none)
 
 advance-requires : tie.Need-advance-requires Inv-loop μ-loop
-advance-requires c κs = (c .before .before .before .before .before .before .before .before .before .before .before .before .before .before .before .before .before .before .before .before .before .pre .0, c .before .before .before .before .before .before .before .before .before .before .before .before .before .before .before .before .before .before .before .before .before .pre .2, c .before .before .before .before .before .before .before .before .before .before .before .before .before .before .before .before .before .before .before .before .before .pre .3, subst (λ (x : ℤ). natAbs x ≤ 20000) (sym (same-asked (c .before .before .before .before .before .before .before .before .before .before .before .before .before .before .before .before .before .before .before .before .before))) (c .before .before .before .before .before .before .before .before .before .before .before .before .before .before .before .before .before .before .before .before .before .pre .4), c .before .before .before .before .before .before .before .before .before .before .before .before .loop .inv .1, c .before .before .before .before .before .before .before .before .before .before .before .before .loop .inv .2)
+advance-requires c κs = (c .before .before .before .before .before .before .before .before .before .before .before .before .before .before .before .before .pre .0, c .before .before .before .before .before .before .before .before .before .before .before .before .before .before .before .before .pre .2, c .before .before .before .before .before .before .before .before .before .before .before .before .before .before .before .before .pre .3, subst (λ (x : ℤ). natAbs x ≤ 20000) (sym (same-asked (c .before .before .before .before .before .before .before .before .before .before .before .before .before .before .before .before))) (c .before .before .before .before .before .before .before .before .before .before .before .before .before .before .before .before .pre .4), c .before .before .before .before .before .before .before .loop .inv .1, c .before .before .before .before .before .before .before .loop .inv .2)
 
 enum-known-outcome : tie.Need-enum-known-outcome Inv-loop μ-loop
 enum-known-outcome c = search needs
@@ -79,14 +79,14 @@ abbrev drops : tie.After-change-mark Inv-loop μ-loop → tie.After-known-told I
 drops c = c .before .before .before .before .before
 
 abbrev at-drop : tie.After-change-mark Inv-loop μ-loop → tie.At-loop Inv-loop μ-loop
-at-drop c = c .before .before .before .before .before .before .before .before .before .before .before .before .before .before .before .before .before .before .before .before .before
+at-drop c = c .before .before .before .before .before .before .before .before .before .before .before .before .before .before .before .before
 
 abbrev start-drop : tie.After-change-mark Inv-loop μ-loop → tie.Start Inv-loop μ-loop
-start-drop c = c .before .before .before .before .before .before .before .before .before .before .before .before .before .before .before .before .before .before .before .before .before .before .before .before .before .before .before .before .before .before
+start-drop c = c .before .before .before .before .before .before .before .before .before .before .before .before .before .before .before .before .before .before .before .before .before .before .before .before .before
 
 change-mark-requires : tie.Need-change-mark-requires Inv-loop μ-loop
 change-mark-requires c κs =
-    let lim = c .before .before .before .before .before .before .before .before .before .before .before .before .before .before .before .before .before .before .before .before .before .before .before .before .before .before .before .before .before .pre .0 in
+    let lim = c .before .before .before .before .before .before .before .before .before .before .before .before .before .before .before .before .before .before .before .before .before .before .before .before .pre .0 in
     let l = dropped (c .before .before .before .before) .gap-in in
     let e = c .before .before .before .before .before .outcome .given .0 .0 .0 in
     (omega (arith, l, lim .gaps-most), omega (arith, lim .left-in e l, lim .labels-most), omega (arith, lim .right-in e l, lim .labels-most))
@@ -110,15 +110,15 @@ enum-told c = search needs
 
 change-mark-requires-2 : tie.Need-change-mark-requires-2 Inv-loop μ-loop
 change-mark-requires-2 c κs =
-    let lim = c .before .before .before .before .before .before .before .before .before .before .before .before .before .before .before .before .before .before .before .before .before .before .before .before .before .before .before .before .pre .0 in
-    let l = c .before .before .before .before .before .before .before .before .before .before .before .before .before .before .before .before .before .before .before .before .before .before .before .before .before .before .before .before .pre .1 in
-    let e = c .before .before .before .before .before .before .before .before .before .before .before .before .before .before .before .before .before .before .before .before .before .before .before .before .before .before .before .before .args .c .0 in
+    let lim = c .before .before .before .before .before .before .before .before .before .before .before .before .before .before .before .before .before .before .before .before .before .before .before .pre .0 in
+    let l = c .before .before .before .before .before .before .before .before .before .before .before .before .before .before .before .before .before .before .before .before .before .before .before .pre .1 in
+    let e = c .before .before .before .before .before .before .before .before .before .before .before .before .before .before .before .before .before .before .before .before .before .before .before .args .c .0 in
     (omega (arith, l, lim .gaps-most), omega (arith, lim .left-in e l, lim .labels-most), omega (arith, lim .right-in e l, lim .labels-most))
 
 returns : tie.Need-returns Inv-loop μ-loop
 returns c =
-    let s = c .before .before .before .before .before .before .before .before .before .before .before .before .before .before .before .before .before .before .before .before .before .before .before .before .before .before .before .before .before in
-    let i = c .before .before .before .before .before .before .before .before .before .before .before .before .before .before .before .before .before .before .before .before .loop .inv in
+    let s = c .before .before .before .before .before .before .before .before .before .before .before .before .before .before .before .before .before .before .before .before .before .before .before .before in
+    let i = c .before .before .before .before .before .before .before .before .before .before .before .before .before .before .before .loop .inv in
     let ch = c .change-mark2 .ensures in
     (rw (ch .marks) (raised-reached (s .args .c .0) (same-asked s) (s .pre .0) (s .pre .1) (i .0) (reached (c .before .before .before .before .before))), remarked-then (i .3) (changed-remarked (omega (arith, s .pre .1, s .pre .0 .gaps-most)) ch))
 
@@ -127,8 +127,8 @@ enum-told-2 c = search needs
 
 returns-2 : tie.Need-returns-2 Inv-loop μ-loop
 returns-2 c =
-    let s = c .before .before .before .before .before .before .before .before .before .before .before .before .before .before .before .before .before .before .before .before .before .before .before .before in
-    let i = c .before .before .before .before .before .before .before .before .before .before .before .before .before .before .before .loop .inv in
+    let s = c .before .before .before .before .before .before .before .before .before .before .before .before .before .before .before .before .before .before .before in
+    let i = c .before .before .before .before .before .before .before .before .before .before .loop .inv in
     (raised-ring (s .args .c .0) (same-asked s) (i .0) (ring c), i .3)
 
 pub raise-spec : {M : Type 1} → statement M

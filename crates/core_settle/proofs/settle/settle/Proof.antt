@@ -8,16 +8,15 @@ use Rattle.core_settle.specs.declared.TurnEnd.{TurnEnd}
 use Rattle.core_settle.specs.declared.TurnEnd.the-variants.{Done, Again, Ring}
 use Rattle.core_standing.specs.Standing.{Standing}
 use Rattle.core_settle.specs.Settle.{TurnSays}
-use Rattle.core_settle.proofs.Turning.{settle-ring}
 use Rattle.core_settle.proofs.settle.settle.Statement.{statement}
 use Rattle.core_settle.proofs.settle.settle.Tie as tie
 
 abbrev Inv-loop : tie.InvT-loop
-Inv-loop labels gaps left right distance kind mark₀ wanted weight num₀ den₀ ring₀ back₀ at₀ queue₀ via₀ up₀ off₀ held₀ share₀ load₀ over₀ mark num den ring back at queue via up off held share load over =
+Inv-loop labels gaps left right distance kind mark₀ wanted weight num₀ den₀ ring₀ back₀ load₀ over₀ mark num den ring back load over =
     Standing (record { labels = labels; gaps = gaps; left = left; right = right; distance = distance; kind = kind; wanted = wanted; weight = weight }) mark num den load over
 
 abbrev μ-loop : tie.MeasureT-loop
-μ-loop labels gaps left right distance kind mark₀ wanted weight num₀ den₀ ring₀ back₀ at₀ queue₀ via₀ up₀ off₀ held₀ share₀ load₀ over₀ mark num den ring back at queue via up off held share load over =
+μ-loop labels gaps left right distance kind mark₀ wanted weight num₀ den₀ ring₀ back₀ load₀ over₀ mark num den ring back load over =
     measure (numbersOf (record { labels = labels; gaps = gaps; left = left; right = right; distance = distance; kind = kind; wanted = wanted; weight = weight })) (int num) (int den)
 
 abbrev problem : tie.Start Inv-loop μ-loop → Problem
@@ -41,14 +40,14 @@ start c = c .before
 
 turn-requires : tie.Need-turn-requires Inv-loop μ-loop
 turn-requires c κs =
-    let o = c .before .before .before .before .before .before .before .before .before .before .before .before .before .before in
+    let o = c .before .before .before .before .before .before .before in
     (start o .pre .0, o .loop .inv)
 
 -- what the turn says, at its result
 abbrev SaysAt : tie.After-turn Inv-loop μ-loop → TurnEnd → Type 0
 SaysAt c t =
-    let o = c .before .before .before .before .before .before .before .before .before .before .before .before .before .before .before in
-    TurnSays (problem (start o)) (o .loop .mark) (o .loop .num) (o .loop .den) t (c .turn .last .1 .1 .1 .1 .1 .1 .0) (c .turn .last .1 .1 .1 .1 .1 .1 .1 .1 .1 .0) (c .turn .last .1 .1 .1 .1 .1 .1 .1 .1 .1 .1 .0) (c .turn .last .1 .1 .1 .1 .1 .1 .1 .1 .1 .1 .1 .1 .1 .1 .1 .1 .1 .1 .1 .1 .0) (c .turn .last .1 .1 .1 .1 .1 .1 .1 .1 .1 .1 .1 .1 .1 .1 .1 .1 .1 .1 .1 .1 .1 .0) (c .turn .last .1 .1 .1 .1 .1 .1 .1 .1 .1 .1 .1 .0) (c .turn .last .1 .1 .1 .1 .1 .1 .1 .1 .1 .1 .1 .1 .0)
+    let o = c .before .before .before .before .before .before .before .before in
+    TurnSays (problem (start o)) (o .loop .mark) (o .loop .num) (o .loop .den) t (c .turn .last .1 .1 .1 .1 .1 .1 .0) (c .turn .last .1 .1 .1 .1 .1 .1 .1 .1 .1 .0) (c .turn .last .1 .1 .1 .1 .1 .1 .1 .1 .1 .1 .0) (c .turn .last .1 .1 .1 .1 .1 .1 .1 .1 .1 .1 .1 .1 .1 .0) (c .turn .last .1 .1 .1 .1 .1 .1 .1 .1 .1 .1 .1 .1 .1 .1 .0) (c .turn .last .1 .1 .1 .1 .1 .1 .1 .1 .1 .1 .1 .0) (c .turn .last .1 .1 .1 .1 .1 .1 .1 .1 .1 .1 .1 .1 .0)
 
 says-at : (c : tie.After-turn Inv-loop μ-loop) (t : TurnEnd) → c .turn .result ≡ t → SaysAt c t
 says-at c t is = subst (SaysAt c) is (c .turn .ensures)
@@ -63,10 +62,7 @@ enum-known-next : tie.Need-enum-known-next Inv-loop μ-loop
 enum-known-next c = search needs
 
 returns-2 : tie.Need-returns-2 Inv-loop μ-loop
-returns-2 c =
-    let o = c .before .before .before in
-    let size = c .before .next .given .0 .0 in
-    settle-ring (problem (start (o .before .before .before .before .before .before .before .before .before .before .before .before .before .before .before))) size (o .turn .last .1 .1 .1 .1 .1 .1 .0) (o .turn .last .1 .1 .1 .1 .1 .1 .1 .1 .1 .0) (o .turn .last .1 .1 .1 .1 .1 .1 .1 .1 .1 .1 .0) (o .turn .last .1 .1 .1 .1 .1 .1 .1 .1 .1 .1 .1 .1 .1 .1 .1 .1 .1 .1 .1 .1 .0) (o .turn .last .1 .1 .1 .1 .1 .1 .1 .1 .1 .1 .1 .1 .1 .1 .1 .1 .1 .1 .1 .1 .1 .0) (o .turn .last .1 .1 .1 .1 .1 .1 .1 .1 .1 .1 .1 .0) (o .turn .last .1 .1 .1 .1 .1 .1 .1 .1 .1 .1 .1 .1 .0) (says-at o (Ring size) (c .before .next .given .1))
+returns-2 c = says-at (c .before .before .before) (Ring (c .before .next .given .0 .0)) (c .before .next .given .1)
 
 enum-told-2 : tie.Need-enum-told-2 Inv-loop μ-loop
 enum-told-2 c = search needs

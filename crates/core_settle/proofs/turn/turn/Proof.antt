@@ -84,18 +84,18 @@ pushing-at c =
 
 raise-requires : tie.Need-raise-requires
 raise-requires c κs =
-    let o = c .before .before .before .before .before .before .before .before .before .before .before .before .before .before in
+    let o = c .before .before .before .before .before .before .before .before .before in
     let q = pushing-at o in
     (limits (start o), q .gap-in, q .from-in, q .to-in, rw (read-back (o .push-of .result .reach) (q .reach-most)) (q .reach-most))
 
 -- ---- the gap is marked
 
 abbrev push : tie.After-raise → tie.After-push-of
-push c = c .before .before .before .before .before .before .before .before .before .before .before .before .before .before .before
+push c = c .before .before .before .before .before .before .before .before .before .before
 
 rebalance-requires : tie.Need-rebalance-requires
 rebalance-requires c κs =
-    let i = c .before .before .before .before .before .before .before .before .before .before .before in
+    let i = c .before .before .before .before .before .before .before in
     let o = push (i .before) in
     let r = i .before .raise .ensures in
     let w = turn-waits (limits (start o)) (stands (start o)) (pushing-at o) (i .if1 .taken) (r .0) (r .1) in
@@ -103,9 +103,9 @@ rebalance-requires c κs =
 
 returns-2 : tie.Need-returns-2
 returns-2 c =
-    let i = c .before .before .before .before .before .before .before .before .before .before .before .before in
+    let i = c .before .before .before .before .before .before .before .before in
     let o = push (i .before) in
-    turn-again (limits (start o)) (stands (start o)) (c .rebalance .last .1 .1 .1 .1 .1 .1 .1 .1 .1 .1 .1 .1 .1 .1 .0) (c .rebalance .last .1 .1 .1 .1 .1 .1 .1 .1 .1 .1 .1 .1 .1 .1 .1 .0) (c .rebalance .last .1 .1 .1 .1 .1 .1 .1 .1 .1 .1 .1 .1 .1 .1 .1 .1 .0) (c .rebalance .last .1 .1 .1 .1 .1 .1 .1 .1 .1 .1 .1 .1 .1 .1 .1 .1 .1 .0) (pushing-at o) (i .if1 .taken) (i .before .raise .ensures .0) (c .rebalance .ensures)
+    turn-again (limits (start o)) (stands (start o)) (c .rebalance .last .1 .1 .1 .1 .1 .1 .1 .1 .1 .1 .0) (c .rebalance .last .1 .1 .1 .1 .1 .1 .1 .1 .1 .1 .1 .0) (c .rebalance .last .1 .1 .1 .1 .1 .1 .1 .1 .1 .1 .1 .1 .0) (c .rebalance .last .1 .1 .1 .1 .1 .1 .1 .1 .1 .1 .1 .1 .1 .0) (pushing-at o) (i .if1 .taken) (i .before .raise .ensures .0) (c .rebalance .ensures .0)
 
 -- ---- nothing gives way
 

@@ -1,4 +1,5 @@
--- `dirmoog_c::text::dirmoog_listing` meets its contract: the listing is that of the answer that the number and the place tell.
+-- `dirmoog_c::text::dirmoog_listing` meets its contract:
+-- the listing is that of the answer that the number and the place tell.
 use borrow.Author.Needs.{needs}
 use mathlib.Core.Path.{ap, _∙_}
 use Rattle.ground.specs.declared.Answer.{Answer}
@@ -32,7 +33,8 @@ same-length-2 c = search needs
 returns : tie.Need-returns
 returns c =
     let a = c .before .before .before .before .before .before .before .before .before .before .before .before .before .args in
-    let listing = ap (λ (r : Answer). listedIn r (a .place-num .now) (a .place-den .now) (a .text .now)) (c .before .before .before .before .before .before .before .before .before .before .answer-of .ensures) in
+    let listing = ap (λ (r : Answer). listedIn r (a .place-num .now) (a .place-den .now) (a .text .now))
+    (c .before .before .before .before .before .before .before .before .before .before .answer-of .ensures) in
     let wrote = c .before .before .before .before .before .before .before .before .write-listing .ensures in
     let answer = wrote .0 ∙ ap (λ (l : Listing). l .answer) listing in (
       c .listed-number .ensures ∙ ap listedNumber answer,

@@ -1,4 +1,5 @@
--- `dirmoog_c::text::dirmoog_read` meets its contract: the reading is that of the text, and what is told is told of it.
+-- `dirmoog_c::text::dirmoog_read` meets its contract:
+-- the reading is that of the text, and what is told is told of it.
 use borrow.Author.Needs.{needs}
 use mathlib.Core.Path.{ap, _∙_}
 use Rattle.text_reading.specs.Texts.{Done}
@@ -45,9 +46,16 @@ same-length-6 c = search needs
 
 returns : tie.Need-returns
 returns c =
-    let done = c .before .before .before .before .before .before .before .before .before .before .before .before .before .before .before .before .before .before .read-sheet .ensures in
-    let answer = ap (λ (d : Done). d .answer) done in
-    record { lists = ap (λ (d : Done). d .lists) done; returned = c .before .before .before .before .before .before .before .before .before .before .read-number .ensures ∙ ap readNumber answer; out-told = told-both (c .before .before .before .before .before .before .before .before .before .before .before .before .before .before .before .before .before .before .before .before .before .before .before .before .before .before .before .before .args .out .now) (c .before .before .before .before .before .before .before .put .last .0) (c .before .before .before .before .before .before .before .put .ensures) (c .before .before .before .before .before .before .before .before .read-first .ensures ∙ ap readFirst answer) (c .before .before .put2 .ensures) (c .before .before .before .read-second .ensures ∙ ap readSecond answer) }
+    let p = c .before .before .before .before .before .before .before in
+    let d = p .before .before .before .before .before .before .before .before .before .before .before in
+    let answer = ap (λ (r : Done). r .answer) (d .read-sheet .ensures) in
+    record {
+      lists = ap (λ (r : Done). r .lists) (d .read-sheet .ensures);
+      returned = p .before .before .before .read-number .ensures ∙ ap readNumber answer;
+      out-told = told-both (d .before .before .before .before .before .before .before .before .before .before .args .out .now) (p .put .last .0)
+          (p .put .ensures) (p .before .read-first .ensures ∙ ap readFirst answer)
+          (c .before .before .put2 .ensures) (c .before .before .before .read-second .ensures ∙ ap readSecond answer);
+    }
 
 pub dirmoog-read-spec : {M : Type 1} → statement M
 dirmoog-read-spec =

@@ -1,4 +1,5 @@
--- `exact::Rounded::whole` meets its contract: in each arm the answer is that arm's variant, at which `wholeOf` computes.
+-- `exact::Rounded::whole` meets its contract: in each arm the answer is that arm's variant,
+-- at which `wholeOf` computes.
 use mathlib.Core.Path.{sym, _∙_, ap}
 use borrow.Author.Needs.{needs}
 use mir.Syntax.{w64}

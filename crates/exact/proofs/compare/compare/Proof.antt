@@ -1,4 +1,6 @@
--- `exact::compare` meets its contract: the whole parts decide where they differ, and else the rests over a common denominator, whose products 64 bits hold.
+-- `exact::compare::compare` meets its contract:
+-- the whole parts decide where they differ, and else the rests over a common denominator,
+-- whose products 64 bits hold.
 use mathlib.Core.Path.{sym, _∙_, ap, ap₂}
 use borrow.Author.Needs.{needs}
 use mir.Syntax.{w64}

@@ -1,4 +1,5 @@
--- `exact::order_of` meets its contract: each arm's tests are those of `orderZ`, of the numbers as they are read back from their bits.
+-- `exact::compare::order_of` meets its contract:
+-- each arm's tests are those of `orderZ`, of the numbers as they are read back from their bits.
 use mathlib.Core.Path.{_≡_, _∙_, ap₂}
 use mir.Syntax.{w64}
 use mir.ValLaws.{toZ-ofZ}

@@ -1,4 +1,5 @@
--- `exact::divide::gcd` meets its contract. The loop's invariant: the greatest common divisor of what is left is that of the two numbers given.
+-- `exact::divide::gcd` meets its contract.
+-- The loop's invariant: the greatest common divisor of what is left is that of the two numbers given.
 -- The measure is the second number left. Assumes nothing.
 use mathlib.Core.Path.{_≡_}
 use Prim.Native.Nat.{ℕ, _%_, _<_}

@@ -1,4 +1,5 @@
--- `exact::divide::lowest_by` meets its contract: both numbers are divided by their greatest common divisor, or stay where that is 1.
+-- `exact::divide::lowest_by` meets its contract:
+-- both numbers are divided by their greatest common divisor, or stay where that is 1.
 -- What is read back from the bits of a number that fits is that number. Assumes nothing.
 use mathlib.Core.Path.{_≡_, _∙_, ap, subst}
 use Prim.Native.Nat.{_∣_}

@@ -1,4 +1,5 @@
--- `exact::nearest` meets its contract: each of its four ways is a case of roundTiesToAway, by the rest's sign and by twice the rest.
+-- `exact::round::nearest` meets its contract: each of its four ways is a case of roundTiesToAway,
+-- by the rest's sign and by twice the rest.
 use Rattle.exact.specs.declared.Fraction.{Fraction}
 use Rattle.exact.proofs.Ordering.{division-asks}
 use Rattle.exact.proofs.Rounding.{away-asks, twice-away-asks, twice-asks, next-asks, last-asks, whole-below, last-below, whole-above, next-above}

@@ -1,4 +1,5 @@
--- `exact::round` meets its contract: a test that is met is a reason to refuse, and where none is the fraction is within what `nearest` takes.
+-- `exact::round::round` meets its contract: a test that is met is a reason to refuse,
+-- and where none is the fraction is within what `nearest` takes.
 use mathlib.Core.Path.{_≡_, _∙_, ap, ap₂}
 use borrow.Author.Needs.{needs}
 use mir.Syntax.{w64}
@@ -28,6 +29,9 @@ returns-2 : tie.Need-returns-2
 returns-2 c =
     let s = c .before .before .before in
     c .refused2 .ensures ∙ refuses-den-high (kept (s .args .num)) (kept (s .args .den)) (lt-of-test (c .before .if2 .taken)) ∙ plain s
+
+sub-if3 : tie.Need-sub-if3
+sub-if3 c = search needs
 
 refused-requires-3 : tie.Need-refused-requires-3
 refused-requires-3 c κs = search needs
@@ -65,6 +69,7 @@ round-spec =
     returns
     refused-requires-2
     returns-2
+    sub-if3
     refused-requires-3
     returns-3
     refused-requires-4

@@ -1,4 +1,5 @@
--- `ground::copies::copy_bytes` meets its contract. The loop's invariant: the first k entries are copied (`over`). The measure is the entries left.
+-- `ground::copies::copy_bytes` meets its contract. The loop's invariant: the first k entries are copied (`over`).
+-- The measure is the entries left.
 -- Assumes nothing.
 use Prim.Native.Nat.{_≤_, _-_}
 use mathlib.Core.Path.{_≡_, refl}

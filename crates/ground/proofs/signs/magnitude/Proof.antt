@@ -1,13 +1,12 @@
--- `ground::signs::magnitude` meets its contract. The machine reads numbers back from their bits, which are those numbers since they fit.
-use mathlib.Core.Path.{_≡_, sym, subst, _∙_, ap}
+-- `ground::signs::magnitude` meets its contract.
+-- The machine reads numbers back from their bits, which are those numbers since they fit.
+use mathlib.Core.Path.{_≡_, _∙_, ap}
 use native.Mathlib.Omega.{arith}
 use mathlib.Core.Bool.{true, false}
-use Prim.Native.Nat.{ℕ, _+_, _-_, _<_, _^_}
+use Prim.Native.Nat.{ℕ, _-_, _<_, _^_}
 use lib.IntN.{ℤ, pos, negℤ, natAbs, _+ℤ_, _-ℤ_}
-use lib.Signed.{ltZ, nonNeg}
-use lib.Dec.{T}
+use lib.Signed.{ltZ}
 use mir.Syntax.{w64}
-use mir.Val.{Fits, SFits}
 use mir.ValLaws.{toZ-ofZ}
 use Rattle.algebra.proofs.Quotient.{nonneg, small-fits, natAbs-neg, kept, magnitude-fits, next-up, turned, below-zero}
 use Rattle.ground.proofs.signs.magnitude.Statement.{statement}
@@ -17,7 +16,7 @@ read : (s : tie.Start) → kept (s .args .x) ≡ s .args .x
 read s = toZ-ofZ w64 (s .args .x) (s .fits .x)
 
 below : (c : tie.Then1) → ltZ (c .before .args .x) (pos 0) ≡ true
-below c = subst (λ (v : ℤ). ltZ v (pos 0) ≡ true) (read (c .before)) (c .if1 .taken)
+below c = rw (read (c .before)) at (c .if1 .taken)
 
 -- the magnitude less one, which an i64 holds
 less : (c : tie.Then1) → ℕ
@@ -30,35 +29,34 @@ small c = omega (arith, magnitude-fits (c .before .args .x) (c .before .fits .x)
 add-result : tie.Need-add-result
 unfolding less
 add-result c =
-    subst (λ (v : ℤ). SFits w64 (v +ℤ pos 1)) (sym (read (c .before)))
-    (rw (next-up (c .before .args .x) (below c)) (small-fits (negℤ (pos (less c))) (omega (arith, natAbs-neg (pos (less c)), small c))))
+    rw (read (c .before), next-up (c .before .args .x) (below c))
+    (small-fits (negℤ (pos (less c))) (omega (arith, natAbs-neg (pos (less c)), small c)))
 
 up : (c : tie.Then1) → kept (kept (c .before .args .x) +ℤ pos 1) ≡ negℤ (pos (less c))
 unfolding less
 up c = toZ-ofZ w64 _ (add-result c) ∙ ap (λ (v : ℤ). v +ℤ pos 1) (read (c .before)) ∙ next-up (c .before .args .x) (below c)
 
 sub-result : tie.Need-sub-result
-sub-result c =
-    subst (λ (v : ℤ). SFits w64 (pos 0 -ℤ v)) (sym (up c)) (rw (turned (less c)) (small-fits (pos (less c)) (small c)))
+sub-result c = rw (up c, turned (less c)) (small-fits (pos (less c)) (small c))
 
 down : (c : tie.Then1) → kept (pos 0 -ℤ kept (kept (c .before .args .x) +ℤ pos 1)) ≡ pos (less c)
 down c = toZ-ofZ w64 _ (sub-result c) ∙ ap (λ (v : ℤ). pos 0 -ℤ v) (up c) ∙ turned (less c)
 
 cast-result : tie.Need-cast-result
-cast-result c =
-    subst (λ (v : ℤ). T (nonNeg v) × Fits w64 (natAbs v)) (sym (down c)) (tt, record { fits = omega (arith, small c) })
+cast-result c = rw (down c) (tt, record { fits = omega (arith, small c) })
 
 add-result-2 : tie.Need-add-result-2
-add-result-2 c = subst (λ (v : ℤ). Fits w64 (natAbs v + 1)) (sym (down c)) (record { fits = omega (arith, small c) })
+add-result-2 c = rw (down c) (record { fits = omega (arith, small c) })
 
 cast-result-2 : tie.Need-cast-result-2
 cast-result-2 c =
-    subst (λ (v : ℤ). T (nonNeg v) × Fits w64 (natAbs v)) (sym (read (c .before)))
-    (nonneg (c .before .args .x) (subst (λ (v : ℤ). ltZ v (pos 0) ≡ false) (read (c .before)) (c .if1 .left)), record { fits = omega (arith, magnitude-fits (c .before .args .x) (c .before .fits .x)) })
+    let x = c .before .args .x in
+    let from-zero : ltZ x (pos 0) ≡ false = rw (read (c .before)) at (c .if1 .left) in
+    rw (read (c .before)) (nonneg x from-zero, record { fits = omega (arith, magnitude-fits x (c .before .fits .x)) })
 
 returns : tie.Need-returns
 unfolding less
-returns c = ap (λ (v : ℤ). natAbs v + 1) (down c) ∙ omega (arith, below-zero (c .before .args .x) (below c))
+returns c = rw (down c) (omega (arith, below-zero (c .before .args .x) (below c)))
 
 returns-2 : tie.Need-returns-2
 returns-2 c = ap natAbs (read (c .before))

@@ -15,7 +15,14 @@ sheet s = readOf (now (s .args .wanted)) (now (s .args .weight)) (now (s .args .
 
 abbrev lent : tie.Start → Written
 lent s =
-    record { place-num = now (s .args .place-num); place-den = now (s .args .place-den); mult-num = now (s .args .mult-num); mult-den = now (s .args .mult-den); ring = now (s .args .ring); carried = now (s .args .carried) }
+    record {
+      place-num = now (s .args .place-num);
+      place-den = now (s .args .place-den);
+      mult-num = now (s .args .mult-num);
+      mult-den = now (s .args .mult-den);
+      ring = now (s .args .ring);
+      carried = now (s .args .carried);
+    }
 
 -- the checks answer by the table
 decided : (c : tie.After-check) → verdictOf (c .check .result) ≡ table (sheet (c .before .before .before .before .before)) (lent (c .before .before .before .before .before))
@@ -58,7 +65,10 @@ same-length-6 : tie.Need-same-length-6
 same-length-6 c = search needs
 
 returns-2 : tie.Need-returns-2
-returns-2 c = judged-kept (sym (ap verdictOf (c .before .before .before .before .before .before .before .before .before .before .before .before .before .before .before .enum-told .given .1)) ∙ decided (c .before .before .before .before .before .before .before .before .before .before .before .before .before .before .before .before .before)) (c .before .before .before .before .before .before .before .before .place .ensures)
+returns-2 c =
+    let d = c .before .before .before .before .before .before .before .before in
+    judged-kept (sym (ap verdictOf (d .before .before .before .before .before .before .before .enum-told .given .1))
+    ∙ decided (d .before .before .before .before .before .before .before .before .before)) (d .place .ensures)
 
 pub lay-out-spec : {M : Type 1} → statement M
 lay-out-spec =

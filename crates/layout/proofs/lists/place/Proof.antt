@@ -13,7 +13,14 @@ use Rattle.layout.proofs.lists.place.Tie as tie
 -- what is lent to write, at entry
 abbrev lent : tie.Start → Written
 lent s =
-    record { place-num = now (s .args .place-num); place-den = now (s .args .place-den); mult-num = now (s .args .mult-num); mult-den = now (s .args .mult-den); ring = now (s .args .ring); carried = now (s .args .carried) }
+    record {
+      place-num = now (s .args .place-num);
+      place-den = now (s .args .place-den);
+      mult-num = now (s .args .mult-num);
+      mult-den = now (s .args .mult-den);
+      ring = now (s .args .ring);
+      carried = now (s .args .carried);
+    }
 
 few : (s : tie.Start) → length (now (s .args .left)) ≤ 192
 few s = few-gaps (now (s .args .wanted)) (now (s .args .weight)) (now (s .args .left)) (now (s .args .right)) (now (s .args .distance)) (lent s) (s .pre)
@@ -22,7 +29,15 @@ few s = few-gaps (now (s .args .wanted)) (now (s .args .weight)) (now (s .args .
 abbrev left-by : tie.After-project → Buffers
 left-by c =
     let l = c .project .last in
-    record { place-num = l .1 .1 .1 .1 .1 .1 .1 .0; place-den = l .1 .1 .1 .1 .1 .1 .1 .1 .0; mult-num = l .1 .1 .1 .1 .1 .1 .1 .1 .1 .0; mult-den = l .1 .1 .1 .1 .1 .1 .1 .1 .1 .1 .0; carried = l .1 .1 .1 .1 .1 .1 .0; ring = l .1 .1 .1 .1 .1 .1 .1 .1 .1 .1 .1 .0; back = l .1 .1 .1 .1 .1 .1 .1 .1 .1 .1 .1 .1 .0 }
+    record {
+      place-num = l .1 .1 .1 .1 .1 .1 .1 .0;
+      place-den = l .1 .1 .1 .1 .1 .1 .1 .1 .0;
+      mult-num = l .1 .1 .1 .1 .1 .1 .1 .1 .1 .0;
+      mult-den = l .1 .1 .1 .1 .1 .1 .1 .1 .1 .1 .0;
+      carried = l .1 .1 .1 .1 .1 .1 .0;
+      ring = l .1 .1 .1 .1 .1 .1 .1 .1 .1 .1 .1 .0;
+      back = l .1 .1 .1 .1 .1 .1 .1 .1 .1 .1 .1 .1 .0;
+    }
 
 array-share-prefix-kinds : tie.Need-array-share-prefix-kinds
 array-share-prefix-kinds c = few (c .before .before .before .before)
@@ -34,7 +49,10 @@ slice-aggregate-project-2 : tie.Need-slice-aggregate-project-2
 slice-aggregate-project-2 c = search needs
 
 project-requires : tie.Need-project-requires
-project-requires c κs = let s = c .before .before .before .before .before .before .before .before .before .before .before .before in passed-ready (now (s .args .wanted)) (now (s .args .weight)) (now (s .args .left)) (now (s .args .right)) (now (s .args .distance)) (lent s) (s .pre) (replicate 48 0) refl
+project-requires c κs =
+    let s = c .before .before .before .before .before .before .before .before .before .before .before .before in
+    passed-ready (now (s .args .wanted)) (now (s .args .weight)) (now (s .args .left)) (now (s .args .right)) (now (s .args .distance))
+    (lent s) (s .pre) (replicate 48 0) refl
 
 answered-requires : tie.Need-answered-requires
 answered-requires c κs = search needs
@@ -58,7 +76,11 @@ same-length-6 : tie.Need-same-length-6
 same-length-6 c = search needs
 
 returns : tie.Need-returns
-returns c = let s = c .before .before .before .before .before .before .before .before .before .before .before .before .before .before .before .before .before .before .before .before .before .before .before in judged (now (s .args .wanted)) (now (s .args .weight)) (now (s .args .left)) (now (s .args .right)) (now (s .args .distance)) (lent s) (s .pre) (replicate 48 0) (left-by (c .before .before .before .before .before .before .before .before .before .before)) (c .before .before .before .before .before .before .before .before .before .before .project .result) (c .before .before .before .before .before .before .before .before .before .before .project .ensures) refl (c .answered .ensures)
+returns c =
+    let d = c .before .before .before .before .before .before .before .before .before .before in
+    let s = d .before .before .before .before .before .before .before .before .before .before .before .before .before in
+    judged (now (s .args .wanted)) (now (s .args .weight)) (now (s .args .left)) (now (s .args .right)) (now (s .args .distance))
+    (lent s) (s .pre) (replicate 48 0) (left-by d) (d .project .result) (d .project .ensures) refl (c .answered .ensures)
 
 pub place-spec : {M : Type 1} → statement M
 place-spec =

@@ -1,4 +1,5 @@
--- `sheet_checks::check::check` meets its contract: the checks of the sizes are the table's, and where they pass so are those of the contents.
+-- `sheet_checks::check::check` meets its contract:
+-- the checks of the sizes are the table's, and where they pass so are those of the contents.
 use borrow.Author.Needs.{needs}
 use Rattle.sheet_checks.proofs.CheckLaws.{sizes-end, contents-end, passed-even}
 use Rattle.sheet_checks.proofs.check.check.Statement.{statement}

@@ -1,8 +1,12 @@
--- `sheet_checks::check::contents` meets its contract: each check is the table's, and goes on to the next where it passes.
+-- `sheet_checks::check::contents` meets its contract:
+-- each check is the table's, and goes on to the next where it passes.
 use borrow.Author.Needs.{needs}
 use Rattle.sheet_checks.proofs.CheckLaws.{ends-5, ends-6, ends-7, ends-8}
 use Rattle.sheet_checks.proofs.check.contents.Statement.{statement}
 use Rattle.sheet_checks.proofs.check.contents.Tie as tie
+
+sub-first-outside : tie.Need-sub-first-outside
+sub-first-outside c = search needs
 
 first-outside-requires : tie.Need-first-outside-requires
 first-outside-requires c κs = search needs
@@ -52,6 +56,9 @@ returns-3 c =
     (c .before .before .before .before .before .first-outside2 .result) (c .before .before .before .before .before .first-outside2 .ensures) (c .before .before .before .enum-told3 .given .1)
     (c .before .before .first-stranger .result) (c .before .before .first-stranger .ensures) (c .enum-told6 .given .1)
 
+sub-first-outside-2 : tie.Need-sub-first-outside-2
+sub-first-outside-2 c = search needs
+
 first-outside-requires-3 : tie.Need-first-outside-requires-3
 first-outside-requires-3 c κs = search needs
 
@@ -68,6 +75,7 @@ pub contents-spec : {M : Type 1} → statement M
 contents-spec =
     tie.close
     (tie.spec
+    sub-first-outside
     first-outside-requires
     enum-told
     enum-told-2
@@ -80,5 +88,6 @@ contents-spec =
     enum-told-5
     enum-told-6
     returns-3
+    sub-first-outside-2
     first-outside-requires-3
     returns-4)

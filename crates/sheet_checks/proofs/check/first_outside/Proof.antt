@@ -1,4 +1,5 @@
--- `sheet_checks::check::first_outside` meets its contract: the numbers passed are inside, so the first one outside is the table's offender.
+-- `sheet_checks::check::first_outside` meets its contract:
+-- the numbers passed are inside, so the first one outside is the table's offender.
 use Prim.Native.Nat.{_≤_, _-_}
 use native.Mathlib.Omega.{arith}
 use borrow.Author.Needs.{needs}

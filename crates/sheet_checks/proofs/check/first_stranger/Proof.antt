@@ -1,4 +1,5 @@
--- `sheet_checks::check::first_stranger` meets its contract: the gaps passed are known, so the first stranger is the table's offender.
+-- `sheet_checks::check::first_stranger` meets its contract:
+-- the gaps passed are known, so the first stranger is the table's offender.
 use Prim.Native.Nat.{_≤_, _-_}
 use native.Mathlib.Omega.{arith}
 use borrow.Author.Needs.{needs}

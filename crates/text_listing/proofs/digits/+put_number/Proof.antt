@@ -36,8 +36,14 @@ callees t =
 put-number-digit-requires : (t : ℕ) → put-number-lts.Need-digit-requires (callees t) (put-number-at t) put-number.Post
 put-number-digit-requires t c κs = c .before .if1 .taken
 
-put-number-put-byte-requires : (t : ℕ) → put-number-lts.Need-put-byte-requires (callees t) (put-number-at t) put-number.Post
-put-number-put-byte-requires t c κs = omega (arith, ap length (decimal-below-ten (c .before .before .before .before .args .n) (c .before .before .if1 .taken)))
+put-number-put-byte-requires :
+    (t : ℕ) → put-number-lts.Need-put-byte-requires (callees t) (put-number-at t) put-number.Post
+put-number-put-byte-requires t c κs =
+    omega (
+      arith,
+      ap length (decimal-below-ten (c .before .before .before .before .args .n)
+          (c .before .before .if1 .taken)),
+    )
 
 put-number-same-length : (t : ℕ) → put-number-lts.Need-same-length (callees t) (put-number-at t) put-number.Post
 put-number-same-length t c = c .before .before .put-byte .kept .0
@@ -45,28 +51,50 @@ put-number-same-length t c = c .before .before .put-byte .kept .0
 put-number-returns : (t : ℕ) → put-number-lts.Need-returns (callees t) (put-number-at t) put-number.Post
 put-number-returns t c =
     told
-    (ap (λ (d : ℕ). d ∷ []) (c .before .before .before .digit .ensures) ∙ decimal-below-ten (c .before .before .before .before .before .before .before .args .n) (c .before .before .before .before .before .if1 .taken))
+    (ap (λ (d : ℕ). d ∷ []) (c .before .before .before .digit .ensures) ∙ decimal-below-ten
+    (c .before .before .before .before .before .before .before .args .n)
+    (c .before .before .before .before .before .if1 .taken))
     (c .before .before .put-byte .ensures)
 
-put-number-put-number-requires : (t : ℕ) → put-number-lts.Need-put-number-requires (callees t) (put-number-at t) put-number.Post
-put-number-put-number-requires t c κs = (omega arith, omega (arith, longer (c .before .before .before .args .n) (c .before .if1 .left) (c .before .before .before .fits .n .fits)))
+put-number-put-number-requires :
+    (t : ℕ) → put-number-lts.Need-put-number-requires (callees t) (put-number-at t) put-number.Post
+put-number-put-number-requires t c κs = (
+  omega arith,
+  omega (
+    arith,
+    longer (c .before .before .before .args .n) (c .before .if1 .left) (c .before .before .before .fits .n .fits),
+  ),
+)
 
-put-number-digit-requires-2 : (t : ℕ) → put-number-lts.Need-digit-requires-2 (callees t) (put-number-at t) put-number.Post
+put-number-digit-requires-2 :
+    (t : ℕ) → put-number-lts.Need-digit-requires-2 (callees t) (put-number-at t) put-number.Post
 put-number-digit-requires-2 t c κs = omega arith
 
-put-number-put-byte-requires-2 : (t : ℕ) → put-number-lts.Need-put-byte-requires-2 (callees t) (put-number-at t) put-number.Post
+put-number-put-byte-requires-2 :
+    (t : ℕ) → put-number-lts.Need-put-byte-requires-2 (callees t) (put-number-at t) put-number.Post
 put-number-put-byte-requires-2 t c κs =
-    omega
-    (arith, longer (c .before .before .before .before .before .before .before .before .args .n) (c .before .before .before .before .before .before .if1 .left) (c .before .before .before .before .before .before .before .before .fits .n .fits))
+    omega (
+      arith,
+      longer (c .before .before .before .before .before .before .before .before .args .n) (c .before .before
+          .before .before .before .before .if1 .left)
+          (c .before .before .before .before .before .before .before .before .fits .n .fits),
+    )
 
 put-number-same-length-2 : (t : ℕ) → put-number-lts.Need-same-length-2 (callees t) (put-number-at t) put-number.Post
-put-number-same-length-2 t c = c .before .before .put-byte2 .kept .0 ∙ c .before .before .before .before .before .before .before .put-number .kept .0
+put-number-same-length-2 t c =
+    c .before .before .put-byte2 .kept .0 ∙ c .before .before .before .before .before .before .before .put-number
+    .kept .0
 
 put-number-returns-2 : (t : ℕ) → put-number-lts.Need-returns-2 (callees t) (put-number-at t) put-number.Post
 put-number-returns-2 t c =
     told
-    (ap (λ (d : ℕ). decimal (c .before .before .before .before .before .before .before .before .before .before .before .args .n / 10) ++ (d ∷ [])) (c .before .before .before .digit2 .ensures) ∙ decimal-by-last (c .before .before .before .before .before .before .before .before .before .before .before .args .n) (c .before .before .before .before .before .before .before .before .before .if1 .left) (c .before .before .before .before .before .before .before .before .before .before .before .fits .n .fits))
-    (then (c .before .before .before .before .before .before .before .put-number .ensures) (c .before .before .put-byte2 .ensures))
+    (ap (λ (d : ℕ). decimal (c .before .before .before .before .before .before .before .before .before .before .before
+    .args .n / 10) ++ (d ∷ [])) (c .before .before .before .digit2 .ensures) ∙ decimal-by-last
+    (c .before .before .before .before .before .before .before .before .before .before .before .args .n)
+    (c .before .before .before .before .before .before .before .before .before .if1 .left)
+    (c .before .before .before .before .before .before .before .before .before .before .before .fits .n .fits))
+    (then (c .before .before .before .before .before .before .before .put-number .ensures)
+    (c .before .before .put-byte2 .ensures))
 
 pub +put-number-spec : {M : Type 1} → statement M
 +put-number-spec = close μ-put-number λ t. put-number-lts.spec (callees t)

@@ -14,7 +14,9 @@ same-length : tie.Need-same-length
 same-length c = search needs
 
 returns : tie.Need-returns
-returns c = then (c .before .before .before .before .before .before .put-byte .ensures) (c .before .before .put-number .ensures)
+returns c =
+    then (c .before .before .before .before .before .before .put-byte .ensures)
+    (c .before .before .put-number .ensures)
 
 pub put-number-field-spec : {M : Type 1} → statement M
 put-number-field-spec =

@@ -20,11 +20,17 @@ read : (s : tie.Start) → kept (s .args .x) ≡ s .args .x
 read s = toZ-ofZ w64 (s .args .x) (s .fits .x)
 
 -- its text, by its sign
-negative : (c : tie.Then1) → minus ∷ decimal (natAbs (kept (c .before .before .args .x))) ≡ signedDecimal (c .before .before .args .x)
-negative c = signed-below (kept (c .before .before .args .x)) (c .if1 .taken) ∙ ap signedDecimal (read (c .before .before))
+negative :
+    (c : tie.Then1) → minus ∷ decimal (natAbs (kept (c .before .before .args .x))) ≡ signedDecimal
+    (c .before .before .args .x)
+negative c =
+    signed-below (kept (c .before .before .args .x)) (c .if1 .taken) ∙ ap signedDecimal (read (c .before .before))
 
-positive : (c : tie.Else1) → decimal (natAbs (kept (c .before .before .args .x))) ≡ signedDecimal (c .before .before .args .x)
-positive c = signed-above (kept (c .before .before .args .x)) (c .if1 .left) ∙ ap signedDecimal (read (c .before .before))
+positive :
+    (c : tie.Else1) → decimal (natAbs (kept (c .before .before .args .x))) ≡ signedDecimal
+    (c .before .before .args .x)
+positive c =
+    signed-above (kept (c .before .before .args .x)) (c .if1 .left) ∙ ap signedDecimal (read (c .before .before))
 
 put-byte-requires : tie.Need-put-byte-requires
 put-byte-requires c κs = omega (arith, ap length (negative (c .before)))
@@ -34,8 +40,12 @@ magnitude-requires c κs = search needs
 
 put-number-requires : tie.Need-put-number-requires
 put-number-requires c κs =
-    omega
-    (arith, ap (λ (n : ℕ). length (decimal n)) (c .magnitude .ensures), ap length (negative (c .before .before .before .before .before .before)))
+    omega (
+      arith,
+      ap (λ (n : ℕ). length (decimal n)) (c .magnitude .ensures),
+      ap length (negative
+          (c .before .before .before .before .before .before)),
+    )
 
 same-length : tie.Need-same-length
 same-length c = search needs
@@ -43,8 +53,10 @@ same-length c = search needs
 returns : tie.Need-returns
 returns c =
     told
-    (ap (λ (n : ℕ). minus ∷ decimal n) (c .before .before .before .magnitude .ensures) ∙ negative (c .before .before .before .before .before .before .before .before .before))
-    (then (c .before .before .before .before .before .before .before .put-byte .ensures) (c .before .before .put-number .ensures))
+    (ap (λ (n : ℕ). minus ∷ decimal n) (c .before .before .before .magnitude .ensures) ∙ negative
+    (c .before .before .before .before .before .before .before .before .before))
+    (then (c .before .before .before .before .before .before .before .put-byte .ensures)
+    (c .before .before .put-number .ensures))
 
 magnitude-requires-2 : tie.Need-magnitude-requires-2
 magnitude-requires-2 c κs = search needs
@@ -58,7 +70,9 @@ same-length-2 : tie.Need-same-length-2
 same-length-2 c = search needs
 
 returns-2 : tie.Need-returns-2
-returns-2 c = told (ap decimal (c .before .before .before .magnitude2 .ensures) ∙ positive (c .before .before .before .before .before)) (c .before .before .put-number2 .ensures)
+returns-2 c =
+    told (ap decimal (c .before .before .before .magnitude2 .ensures) ∙ positive
+    (c .before .before .before .before .before)) (c .before .before .put-number2 .ensures)
 
 pub put-signed-spec : {M : Type 1} → statement M
 put-signed-spec =

@@ -31,8 +31,10 @@ same-length c = search needs
 returns : tie.Need-returns
 returns c =
     told
-    (ap (λ (v : ℤ). next (signedDecimal v)) (read (c .before .before .before .before .before .before .before .before .before)))
-    (then (c .before .before .before .before .before .before .put-byte .ensures) (c .before .before .put-signed .ensures))
+    (ap (λ (v : ℤ). next (signedDecimal v))
+    (read (c .before .before .before .before .before .before .before .before .before)))
+    (then (c .before .before .before .before .before .before .put-byte .ensures)
+    (c .before .before .put-signed .ensures))
 
 pub put-signed-field-spec : {M : Type 1} → statement M
 put-signed-field-spec =

@@ -1,4 +1,5 @@
--- `text_listing::digits::put_word` meets its contract. The loop's invariant: the first k bytes of the word are copied. The measure is the bytes left.
+-- `text_listing::digits::put_word` meets its contract. The loop's invariant: the first k bytes of the word are
+-- copied. The measure is the bytes left.
 use mathlib.Core.Path.{_≡_, sym, ap, _∙_}
 use mathlib.Core.List.{List, _++_}
 use Prim.Native.Nat.{ℕ, _+_, _≤_, _-_}
@@ -19,7 +20,8 @@ abbrev μ-loop : tie.MeasureT-loop
 long : (c : tie.At-loop Inv-loop μ-loop) → length (c .loop .buf) ≡ length (c .before .args .buf .now)
 long c =
     ap length (c .loop .inv .1)
-    ∙ length-paste (c .before .args .buf .now) (c .before .args .at) (c .before .args .word .now) (c .loop .k) (omega arith) (c .loop .inv .0)
+    ∙ length-paste (c .before .args .buf .now) (c .before .args .at) (c .before .args .word .now) (c .loop .k)
+    (omega arith) (c .loop .inv .0)
 
 -- at the end the whole word is copied
 whole : (c : tie.After-loop Inv-loop μ-loop) → c .before .loop .k ≡ length (c .before .before .args .word .now)
@@ -63,8 +65,11 @@ returns : tie.Need-returns Inv-loop μ-loop
 returns c = (
   ap (λ (k : ℕ). c .before .before .args .at + k) (whole c),
   c .before .loop .inv .1
-      ∙ ap (λ (k : ℕ). paste (c .before .before .args .buf .now) (c .before .before .args .at) (c .before .before .args .word .now) k) (whole c)
-      ∙ ap (λ (s : List ℕ). take (c .before .before .args .at) (c .before .before .args .buf .now) ++ s ++ drop (c .before .before .args .at + length (c .before .before .args .word .now)) (c .before .before .args .buf .now)) (take-length (c .before .before .args .word .now)),
+      ∙ ap (λ (k : ℕ). paste (c .before .before .args .buf .now) (c .before .before .args .at)
+      (c .before .before .args .word .now) k) (whole c)
+      ∙ ap (λ (s : List ℕ). take (c .before .before .args .at) (c .before .before .args .buf .now) ++ s ++ drop
+      (c .before .before .args .at + length (c .before .before .args .word .now)) (c .before .before .args .buf .now))
+      (take-length (c .before .before .args .word .now)),
 )
 
 pub put-word-spec : {M : Type 1} → statement M

@@ -20,7 +20,8 @@ refused-requires c κs = search needs
 returns : tie.Need-returns
 returns c =
     ap (λ (r : Listed). listedAs r (now (c .before .before .before .before .args .out))) (c .refused .ensures)
-    ∙ laid-short (now (c .before .before .before .before .args .text)) (now (c .before .before .before .before .args .out)) (omega arith)
+    ∙ laid-short (now (c .before .before .before .before .args .text))
+    (now (c .before .before .before .before .args .out)) (omega arith)
 
 put-word-requires : tie.Need-put-word-requires
 put-word-requires c κs = search needs
@@ -31,7 +32,8 @@ same-length c = search needs
 returns-2 : tie.Need-returns-2
 returns-2 c =
     let s = c .before .before .before .before .before .before .before in
-    ap₂ (λ (n : ℕ) (b : List ℕ). listedAs (Written n) b) (c .before .before .put-word .ensures .0 ∙ zero-add (length (now (s .args .text))))
+    ap₂ (λ (n : ℕ) (b : List ℕ). listedAs (Written n) b)
+    (c .before .before .put-word .ensures .0 ∙ zero-add (length (now (s .args .text))))
     (c .before .before .put-word .ensures .1
     ∙ ap (λ (n : ℕ). now (s .args .text) ++ drop n (now (s .args .out))) (zero-add (length (now (s .args .text)))))
     ∙ laid-whole (now (s .args .text)) (now (s .args .out)) (omega arith)

@@ -1,4 +1,5 @@
--- `text_listing::listing::list_places` meets its contract: each check refuses as the definition does, and past both the text put is the one laid.
+-- `text_listing::listing::list_places` meets its contract: each check refuses as the definition does, and past both
+-- the text put is the one laid.
 use borrow.Author.Needs.{needs}
 use mathlib.Core.Path.{_∙_, ap, sym}
 use mathlib.Core.List.{List}
@@ -27,7 +28,8 @@ returns-2 : tie.Need-returns-2
 returns-2 c =
     let a = c .before .before .before .before .args in
     ap (λ (r : Listed). listedAs r (now (a .out))) (c .refused2 .ensures)
-    ∙ listed-ragged (now (a .place-num)) (now (a .place-den)) (now (a .out)) (c .before .before .if1 .left) (c .before .if2 .taken)
+    ∙ listed-ragged (now (a .place-num)) (now (a .place-den)) (now (a .out)) (c .before .before .if1 .left)
+    (c .before .if2 .taken)
 
 slice-aggregate-put-places : tie.Need-slice-aggregate-put-places
 slice-aggregate-put-places c = search needs
@@ -51,8 +53,11 @@ returns-3 : tie.Need-returns-3
 returns-3 c =
     let a = c .before .before .before .before .before .before .before .before .before .before .before .args in
     c .before .before .lay .ensures
-    ∙ ap (λ (text : List ℕ). laid text (now (a .out))) (c .before .before .before .before .before .before .put-places .ensures .front)
-    ∙ listed-laid (now (a .place-num)) (now (a .place-den)) (now (a .out)) (c .before .before .before .before .before .before .before .before .before .if1 .left) (c .before .before .before .before .before .before .before .before .if2 .left)
+    ∙ ap (λ (text : List ℕ). laid text (now (a .out)))
+    (c .before .before .before .before .before .before .put-places .ensures .front)
+    ∙ listed-laid (now (a .place-num)) (now (a .place-den)) (now (a .out))
+    (c .before .before .before .before .before .before .before .before .before .if1 .left)
+    (c .before .before .before .before .before .before .before .before .if2 .left)
 
 pub list-places-spec : {M : Type 1} → statement M
 list-places-spec =

@@ -5,7 +5,7 @@ use mathlib.Core.List.{List}
 use Prim.Native.Nat.{ℕ}
 use lib.Seq.{length-take-le}
 use denote.Ref.{now}
-use Rattle.text_listing.specs.Listing.{laid, refusedRecord}
+use Rattle.text_listing.specs.Listing.{laid}
 use Rattle.text_listing.proofs.listing.list_refused.Statement.{statement}
 use Rattle.text_listing.proofs.listing.list_refused.Tie as tie
 
@@ -28,9 +28,11 @@ same-length : tie.Need-same-length
 same-length c = search needs
 
 returns : tie.Need-returns
-unfolding refusedRecord
 returns c =
-    c .before .before .lay .ensures ∙ ap (λ (text : List ℕ). laid text (now (c .before .before .before .before .before .before .before .before .before .args .out))) (c .before .before .before .before .before .before .put-refused .ensures .front)
+    c .before .before .lay .ensures
+    ∙ ap (λ (text : List ℕ). laid text
+    (now (c .before .before .before .before .before .before .before .before .before .args .out)))
+    (c .before .before .before .before .before .before .put-refused .ensures .front)
 
 pub list-refused-spec : {M : Type 1} → statement M
 list-refused-spec =

@@ -12,10 +12,13 @@ put-byte-requires-2 : tie.Need-put-byte-requires-2
 put-byte-requires-2 c κs = omega arith
 
 same-length : tie.Need-same-length
-same-length c = c .before .before .put-byte2 .kept .0 ∙ c .before .before .before .before .before .before .put-byte .kept .0
+same-length c =
+    c .before .before .put-byte2 .kept .0 ∙ c .before .before .before .before .before .before .put-byte .kept .0
 
 returns : tie.Need-returns
-returns c = then (c .before .before .before .before .before .before .put-byte .ensures) (c .before .before .put-byte2 .ensures)
+returns c =
+    then (c .before .before .before .before .before .before .put-byte .ensures)
+    (c .before .before .put-byte2 .ensures)
 
 pub put-end-spec : {M : Type 1} → statement M
 put-end-spec = tie.close (tie.spec put-byte-requires put-byte-requires-2 same-length returns)

@@ -1,4 +1,5 @@
--- `text_listing::listing::put_places` meets its contract. The loop's invariant: the records of the first labels are put, 64 bytes for each at most.
+-- `text_listing::listing::put_places` meets its contract. The loop's invariant: the records of the first labels are
+-- put, each within its room.
 -- The measure is the labels left.
 use mathlib.Core.Path.{_≡_, refl, sym, ap, _∙_}
 use Prim.Native.Nat.{ℕ, _≤_, _-_, _*_}
@@ -11,14 +12,15 @@ use mir.ValLaws.{toZ-ofZ}
 use native.Mathlib.Omega.{arith}
 use Rattle.text_listing.proofs.Appending.{nothing, then, told}
 use Rattle.text_listing.specs.Appended.{Appended}
-use Rattle.text_listing.specs.Listing.{placeRecord, placeRecords}
+use Rattle.text_listing.specs.Listing.{placeRoom, placeRecord, placeRecords}
 use Rattle.text_listing.proofs.Size.{length-place-record}
 use Rattle.text_listing.proofs.listing.put_places.Statement.{statement}
 use Rattle.text_listing.proofs.listing.put_places.Tie as tie
 
 abbrev Inv-loop : tie.InvT-loop
 Inv-loop buf₀ place-num place-den at₀ label₀ buf at label =
-    (label ≤ length place-num) × (length buf ≡ length buf₀) × (at ≤ 64 * label) × Appended buf₀ 0 (placeRecords label place-num place-den) buf at
+    (label ≤ length place-num) × (length buf ≡ length buf₀) × (at ≤ placeRoom * label) × Appended buf₀ 0
+    (placeRecords label place-num place-den) buf at
 
 abbrev μ-loop : tie.MeasureT-loop
 μ-loop buf₀ place-num place-den at₀ label₀ buf at label = length place-num - label
@@ -31,12 +33,25 @@ denominator : (c : tie.At-loop Inv-loop μ-loop) → ℤ
 denominator c = getD (c .before .before .args .place-den .now) (c .loop .label) (pos 0)
 
 -- the record that is put
-put : (c : tie.After-put-place Inv-loop μ-loop) → SFits w64 (numerator (c .before .before .before .before .before)) × SFits w64 (denominator (c .before .before .before .before .before)) × Appended (c .before .before .before .before .before .loop .buf) (c .before .before .before .before .before .loop .at) (placeRecord (c .before .before .before .before .before .loop .label) (numerator (c .before .before .before .before .before)) (denominator (c .before .before .before .before .before))) (c .put-place .last .0) (c .put-place .result)
+put :
+    (c : tie.After-put-place Inv-loop μ-loop) → SFits w64 (numerator (c .before .before .before .before .before))
+    × SFits w64 (denominator (c .before .before .before .before .before)) × Appended
+    (c .before .before .before .before .before .loop .buf) (c .before .before .before .before .before .loop .at)
+    (placeRecord (c .before .before .before .before .before .loop .label)
+    (numerator (c .before .before .before .before .before)) (denominator (c .before .before .before .before .before)))
+    (c .put-place .last .0) (c .put-place .result)
 unfolding numerator denominator
 put c =
-    let fn : SFits w64 (numerator (c .before .before .before .before .before)) = record { sfits = c .before .before .put-place-arg2 .given } in
-    let fd : SFits w64 (denominator (c .before .before .before .before .before)) = record { sfits = c .before .put-place-arg3 .given } in
-    (fn, fd, told (λ i. placeRecord (c .before .before .before .before .before .loop .label) (toZ-ofZ w64 (numerator (c .before .before .before .before .before)) fn i) (toZ-ofZ w64 (denominator (c .before .before .before .before .before)) fd i)) (c .put-place .ensures))
+    let fn : SFits w64 (numerator (c .before .before .before .before
+    .before)) = record { sfits = c .before .before .put-place-arg2 .given } in
+    let fd : SFits w64 (denominator (c .before .before .before .before
+    .before)) = record { sfits = c .before .put-place-arg3 .given } in (
+      fn,
+      fd,
+      told (λ i. placeRecord (c .before .before .before .before .before .loop .label)
+          (toZ-ofZ w64 (numerator (c .before .before .before .before .before)) fn i)
+          (toZ-ofZ w64 (denominator (c .before .before .before .before .before)) fd i)) (c .put-place .ensures),
+    )
 
 loop-holds : tie.Need-loop-holds Inv-loop μ-loop
 unfolding placeRecords
@@ -71,9 +86,18 @@ loop-again c =
     let p = put (c .before .before) in (
       omega arith,
       c .before .before .put-place .kept .0 ∙ i .1,
-      omega (arith, i .2, p .2 .ends, length-place-record (l .label) (numerator (c .before .before .before .before .before .before .before)) (denominator (c .before .before .before .before .before .before .before)) (omega arith) (p .0) (p .1)),
+      omega (
+        arith,
+        i .2,
+        p .2 .ends,
+        length-place-record (l .label) (numerator
+            (c .before .before .before .before .before .before .before))
+            (denominator (c .before .before .before .before .before .before .before)) (omega arith) (p .0) (p .1),
+      ),
       told
-          (ap (λ (n : ℕ). placeRecords n (c .before .before .before .before .before .before .before .before .before .args .place-num .now) (c .before .before .before .before .before .before .before .before .before .args .place-den .now)) (sym (add-one (l .label))))
+          (ap (λ (n : ℕ). placeRecords n (c .before .before .before .before .before .before .before .before .before
+          .args .place-num .now) (c .before .before .before .before .before .before .before .before .before .args
+          .place-den .now)) (sym (add-one (l .label))))
           (then (i .3) (p .2)),
     )
 
@@ -83,7 +107,8 @@ same-length c = c .before .loop .inv .1
 returns : tie.Need-returns Inv-loop μ-loop
 returns c =
     told
-    (ap (λ (n : ℕ). placeRecords n (c .before .before .before .args .place-num .now) (c .before .before .before .args .place-den .now)) (omega arith))
+    (ap (λ (n : ℕ). placeRecords n (c .before .before .before .args .place-num .now)
+    (c .before .before .before .args .place-den .now)) (omega arith))
     (c .before .loop .inv .3)
 
 pub put-places-spec : {M : Type 1} → statement M

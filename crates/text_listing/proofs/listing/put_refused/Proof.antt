@@ -1,12 +1,22 @@
 -- `text_listing::listing::put_refused` meets its contract: the word, two fields and the end behind each other.
 use borrow.Author.Needs.{needs}
 use mathlib.Core.Path.{_∙_}
+use Prim.Native.Nat.{_≤_}
 use native.Mathlib.Omega.{arith}
+use lib.ListN.{length}
+use Rattle.text_rows.specs.Numeral.{decimalMost, decimal}
 use Rattle.text_listing.specs.Listing.{refusedWord, refusedRecord}
 use Rattle.text_listing.proofs.Appending.{then, copied}
 use Rattle.text_listing.proofs.Size.{length-decimal-64}
 use Rattle.text_listing.proofs.listing.put_refused.Statement.{statement}
 use Rattle.text_listing.proofs.listing.put_refused.Tie as tie
+
+-- the numbers have at most the digits of 64 bits
+number-most : (s : tie.Start) → length (decimal (s .args .refusal .number)) ≤ decimalMost
+number-most s = length-decimal-64 (s .args .refusal .number) (omega (arith, s .good))
+
+place-most : (s : tie.Start) → length (decimal (s .args .refusal .place)) ≤ decimalMost
+place-most s = length-decimal-64 (s .args .refusal .place) (omega (arith, s .good))
 
 slice-aggregate-put-word : tie.Need-slice-aggregate-put-word
 slice-aggregate-put-word c = search needs
@@ -17,33 +27,37 @@ put-word-requires c κs = search needs
 put-number-field-requires : tie.Need-put-number-field-requires
 put-number-field-requires c κs =
     let s = c .before .before .before .before .before .before .before in
-    omega
-    (arith, length-decimal-64 (s .args .number) (s .fits .number))
+    omega (arith, number-most s)
 
 put-number-field-requires-2 : tie.Need-put-number-field-requires-2
 put-number-field-requires-2 c κs =
     let s = c .before .before .before .before .before .before .before .before .before .before .before in
-    omega
-    (arith, length-decimal-64 (s .args .number) (s .fits .number), length-decimal-64 (s .args .place) (s .fits .place))
+    omega (arith, number-most s, place-most s)
 
 put-end-requires : tie.Need-put-end-requires
 put-end-requires c κs =
-    let s = c .before .before .before .before .before .before .before .before .before .before .before .before .before .before .before in
-    omega
-    (arith, length-decimal-64 (s .args .number) (s .fits .number), length-decimal-64 (s .args .place) (s .fits .place))
+    let s = c .before .before .before .before .before .before .before .before .before .before .before .before .before
+    .before .before in
+    omega (arith, number-most s, place-most s)
 
 same-length : tie.Need-same-length
 same-length c =
     c .before .before .put-end .kept .0
     ∙ c .before .before .before .before .before .before .put-number-field2 .kept .0
     ∙ c .before .before .before .before .before .before .before .before .before .before .put-number-field .kept .0
-    ∙ c .before .before .before .before .before .before .before .before .before .before .before .before .before .before .put-word .kept .0
+    ∙ c .before .before .before .before .before .before .before .before .before .before .before .before .before
+    .before .put-word .kept .0
 
 returns : tie.Need-returns
 unfolding refusedRecord
 returns c =
-    then (copied refusedWord (omega arith) (c .before .before .before .before .before .before .before .before .before .before .before .before .before .before .put-word .ensures .0) (c .before .before .before .before .before .before .before .before .before .before .before .before .before .before .put-word .ensures .1))
-    (then (c .before .before .before .before .before .before .before .before .before .before .put-number-field .ensures) (then (c .before .before .before .before .before .before .put-number-field2 .ensures) (c .before .before .put-end .ensures)))
+    then (copied refusedWord (omega arith) (c .before .before .before .before .before .before .before .before .before
+    .before .before .before .before .before .put-word .ensures .0)
+    (c .before .before .before .before .before .before .before .before .before .before .before .before .before .before
+    .put-word .ensures .1))
+    (then (c .before .before .before .before .before .before .before .before .before .before .put-number-field
+    .ensures) (then (c .before .before .before .before .before .before .put-number-field2 .ensures)
+    (c .before .before .put-end .ensures)))
 
 pub put-refused-spec : {M : Type 1} → statement M
 put-refused-spec =

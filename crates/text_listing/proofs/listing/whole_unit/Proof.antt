@@ -18,7 +18,8 @@ returns c =
     let s = c .before .before in
     toZ-ofZ w64 (c .whole .result) (record { sfits = c .whole .ok })
     ∙ c .whole .ensures
-    ∙ ap wholeOf (c .before .round .ensures ∙ ap₂ rounded (toZ-ofZ w64 (s .args .num) (s .fits .num)) (toZ-ofZ w64 (s .args .den) (s .fits .den)))
+    ∙ ap wholeOf (c .before .round .ensures ∙ ap₂ rounded (toZ-ofZ w64 (s .args .num) (s .fits .num))
+    (toZ-ofZ w64 (s .args .den) (s .fits .den)))
 
 pub whole-unit-spec : {M : Type 1} → statement M
 whole-unit-spec = tie.close (tie.spec round-requires whole-requires returns)

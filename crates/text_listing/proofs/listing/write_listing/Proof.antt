@@ -25,7 +25,9 @@ same-length c = search needs
 returns : tie.Need-returns
 returns c =
     let a = c .before .before .before .before .before .before .before .args in
-    let e = c .before .before .list-places .ensures ∙ ap (λ (r : Answer). listedIn r (now (a .place-num)) (now (a .place-den)) (now (a .out))) (sym (c .before .before .before .before .enum-told .given .1)) in
+    let e = c .before .before .list-places .ensures
+    ∙ ap (λ (r : Answer). listedIn r (now (a .place-num)) (now (a .place-den)) (now (a .out)))
+    (sym (c .before .before .before .before .enum-told .given .1)) in
     (ap (λ (l : Listing). l .answer) e, ap (λ (l : Listing). l .buffer) e)
 
 same-length-2 : tie.Need-same-length-2
@@ -35,7 +37,9 @@ returns-2 : tie.Need-returns-2
 unfolding listedIn
 returns-2 c =
     let a = c .before .before .before .before .before .before .before .before .args in
-    let e = c .before .before .list-refused .ensures ∙ ap (λ (r : Answer). listedIn r (now (a .place-num)) (now (a .place-den)) (now (a .out))) (sym (c .before .before .before .before .before .answer .given .1)) in
+    let e = c .before .before .list-refused .ensures
+    ∙ ap (λ (r : Answer). listedIn r (now (a .place-num)) (now (a .place-den)) (now (a .out)))
+    (sym (c .before .before .before .before .before .answer .given .1)) in
     (ap (λ (l : Listing). l .answer) e, ap (λ (l : Listing). l .buffer) e)
 
 pub write-listing-spec : {M : Type 1} → statement M

@@ -9,14 +9,31 @@ use Rattle.text_reading.proofs.read.hand_over.Tie as tie
 
 -- the lent lists at entry, and the work arrays
 abbrev lent : tie.Start → Lists
-lent s = record { wanted = now (s .args .wanted); weight = now (s .args .weight); left = now (s .args .left); right = now (s .args .right); distance = now (s .args .distance) }
+lent s = record {
+  wanted = now (s .args .wanted);
+  weight = now (s .args .weight);
+  left = now (s .args .left);
+  right = now (s .args .right);
+  distance = now (s .args .distance);
+}
 
 abbrev work : tie.Start → Lists
-work s = record { wanted = now (s .args .d); weight = now (s .args .w); left = now (s .args .u); right = now (s .args .v); distance = now (s .args .g) }
+work s = record {
+  wanted = now (s .args .d);
+  weight = now (s .args .w);
+  left = now (s .args .u);
+  right = now (s .args .v);
+  distance = now (s .args .g);
+}
+
+-- the start, seen from where the counts are known to pass
+abbrev start : tie.After-answer → tie.Start
+start c = c .before .before .before .before .before .before .before
 
 -- the counts pass
-fits : (c : tie.After-answer) → Fitting (c .answer .given .0 .0) (lent (c .before .before .before .before .before .before .before))
-fits c = let s = c .before .before .before .before .before .before .before in fitting (s .args .counts) (lent s) _ (c .before .before .judge .ensures) _ (c .answer .given .1)
+fits : (c : tie.After-answer) → Fitting (c .answer .given .0 .0) (lent (start c))
+fits c =
+    fitting (start c .args .counts) (lent (start c)) _ (c .before .before .judge .ensures) _ (c .answer .given .1)
 
 judge-requires : tie.Need-judge-requires
 judge-requires c κs = search needs
@@ -28,22 +45,36 @@ enum-told : tie.Need-enum-told
 enum-told c = search needs
 
 returns : tie.Need-returns
-returns c = let s = c .before .before .before .before .before .before .before in handed-refused (s .args .counts) (lent s) _ (c .before .before .judge .ensures) (work s) _ (c .enum-told .given .1)
+returns c =
+    let s = c .before .before .before .before .before .before .before in
+    handed-refused (s .args .counts) (lent s) _ (c .before .before .judge .ensures) (work s) _
+    (c .enum-told .given .1)
 
 copy-ints-requires : tie.Need-copy-ints-requires
-copy-ints-requires c κs = let f = fits (c .before .before) in (omega (arith, f .labels, c .before .before .before .before .before .before .before .before .before .pre .wanted), f .wanted)
+copy-ints-requires c κs =
+    let a = c .before .before in
+    (omega (arith, fits a .labels, start a .pre .wanted), fits a .wanted)
 
 copy-ints-requires-2 : tie.Need-copy-ints-requires-2
-copy-ints-requires-2 c κs = let f = fits (c .before .before .before .before .before) in (omega (arith, f .labels, c .before .before .before .before .before .before .before .before .before .before .before .before .pre .weight), f .weight)
+copy-ints-requires-2 c κs =
+    let a = c .before .before .before .before .before in
+    (omega (arith, fits a .labels, start a .pre .weight), fits a .weight)
 
 copy-indices-requires : tie.Need-copy-indices-requires
-copy-indices-requires c κs = let f = fits (c .before .before .before .before .before .before .before .before) in (omega (arith, f .gaps, c .before .before .before .before .before .before .before .before .before .before .before .before .before .before .before .pre .left), f .left)
+copy-indices-requires c κs =
+    let a = c .before .before .before .before .before .before .before .before in
+    (omega (arith, fits a .gaps, start a .pre .left), fits a .left)
 
 copy-indices-requires-2 : tie.Need-copy-indices-requires-2
-copy-indices-requires-2 c κs = let f = fits (c .before .before .before .before .before .before .before .before .before .before .before .before) in (omega (arith, f .gaps, c .before .before .before .before .before .before .before .before .before .before .before .before .before .before .before .before .before .before .before .pre .right), f .right)
+copy-indices-requires-2 c κs =
+    let a = c .before .before .before .before .before .before .before .before .before .before .before .before in
+    (omega (arith, fits a .gaps, start a .pre .right), fits a .right)
 
 copy-ints-requires-3 : tie.Need-copy-ints-requires-3
-copy-ints-requires-3 c κs = let f = fits (c .before .before .before .before .before .before .before .before .before .before .before .before .before .before .before .before) in (omega (arith, f .gaps, c .before .before .before .before .before .before .before .before .before .before .before .before .before .before .before .before .before .before .before .before .before .before .before .pre .distance), f .distance)
+copy-ints-requires-3 c κs =
+    let a = c .before .before .before .before .before .before .before .before .before .before .before .before
+    .before .before .before .before in
+    (omega (arith, fits a .gaps, start a .pre .distance), fits a .distance)
 
 same-length : tie.Need-same-length
 same-length c = search needs
@@ -62,9 +93,18 @@ same-length-5 c = search needs
 
 returns-2 : tie.Need-returns-2
 returns-2 c =
-    let s = c .before .before .before .before .before .before .before .before .before .before .before .before .before .before .before .before .before .before .before .before .before .before .before .before .before in
-    handed-sheet (s .args .counts) (lent s) _ (c .before .before .before .before .before .before .before .before .before .before .before .before .before .before .before .before .before .before .before .before .judge .ensures) (work s) _ _ (c .before .before .before .before .before .before .before .before .before .before .before .before .before .before .before .before .before .before .answer .given .1)
-    (same-lists (c .before .before .before .before .before .before .before .before .before .before .before .before .before .before .before .copy-ints .ensures) (c .before .before .before .before .before .before .before .before .before .before .before .before .copy-ints2 .ensures) (c .before .before .before .before .before .before .before .before .before .copy-indices .ensures) (c .before .before .before .before .before .copy-indices2 .ensures) (c .before .copy-ints3 .ensures))
+    let s = c .before .before .before .before .before .before .before .before .before .before .before .before .before
+    .before .before .before .before .before .before .before .before .before .before .before .before in
+    handed-sheet (s .args .counts) (lent s) _
+    (c .before .before .before .before .before .before .before .before .before .before .before .before .before .before
+    .before .before .before .before .before .before .judge .ensures) (work s) _ _
+    (c .before .before .before .before .before .before .before .before .before .before .before .before .before .before
+    .before .before .before .before .answer .given .1)
+    (same-lists (c .before .before .before .before .before .before .before .before .before .before .before .before
+    .before .before .before .copy-ints .ensures)
+    (c .before .before .before .before .before .before .before .before .before .before .before .before .copy-ints2
+    .ensures) (c .before .before .before .before .before .before .before .before .before .copy-indices .ensures)
+    (c .before .before .before .before .before .copy-indices2 .ensures) (c .before .copy-ints3 .ensures))
 
 pub hand-over-spec : {M : Type 1} → statement M
 hand-over-spec =

@@ -1,5 +1,5 @@
--- `text_reading::read::read_lines` meets its contract. The loop's invariant: the rest of the text decides the outcome (`Reached`). The measure is that rest.
--- Assumes nothing.
+-- `text_reading::read::read_lines` meets its contract. The loop's invariant: the rest of the text decides the
+-- outcome (`Reached`). The measure is that rest. Assumes nothing.
 use Prim.Native.Nat.{_-_}
 use native.Mathlib.Omega.{arith}
 use mathlib.Core.Path.{sym, _∙_}
@@ -11,7 +11,14 @@ use Rattle.text_reading.proofs.read.read_lines.Tie as tie
 
 abbrev Inv-loop : tie.InvT-loop
 Inv-loop text wanted₀ weight₀ left₀ right₀ distance₀ counts₀ from₀ wanted weight left right distance counts from =
-    Reached text from counts (record { wanted = wanted; weight = weight; left = left; right = right; distance = distance })
+    Reached text from counts (record {
+      wanted =
+          wanted;
+      weight = weight;
+      left = left;
+      right = right;
+      distance = distance;
+    })
 
 abbrev μ-loop : tie.MeasureT-loop
 μ-loop text wanted₀ weight₀ left₀ right₀ distance₀ counts₀ from₀ wanted weight left right distance counts from =
@@ -45,18 +52,31 @@ refused-requires : tie.Need-refused-requires Inv-loop μ-loop
 refused-requires c κs = search needs
 
 returns : tie.Need-returns Inv-loop μ-loop
-returns c = reached-bad (c .before .before .before .before .before .before .before .before .loop .inv) (c .before .before .before .before .before .line-at .ensures) _ (sym (c .before .before .before .take-row .ensures) ∙ c .before .enum-told .given .1) (c .refused .ensures)
+returns c =
+    reached-bad (c .before .before .before .before .before .before .before .before .loop .inv)
+    (c .before .before .before .before .before .line-at .ensures) _
+    (sym (c .before .before .before .take-row .ensures) ∙ c .before .enum-told .given .1) (c .refused .ensures)
 
 store-requires : tie.Need-store-requires Inv-loop μ-loop
 store-requires c κs =
-    let v = c .before .before .before .before .before .before .before .before .before .before .before .before .before .loop .inv in
-    (omega (arith, v .labels-most, c .before .before .before .before .before .before .before .before .before .before .before .if1 .taken, c .before .before .before .before .before .before .before .before .before .before .before .before .before .before .before .pre .0), omega (arith, v .gaps-most, c .before .before .before .before .before .before .before .before .before .before .before .if1 .taken, c .before .before .before .before .before .before .before .before .before .before .before .before .before .before .before .pre .0))
+    let k = c .before .before .before .before .before .before .before .before .before .before .before in
+    let v = k .before .before .loop .inv in
+    let short = k .before .before .before .before .pre .0 in
+    (omega (arith, v .labels-most, k .if1 .taken, short), omega (arith, v .gaps-most, k .if1 .taken, short))
 
 loop-less : tie.Need-loop-less Inv-loop μ-loop
-loop-less c = omega (arith, c .before .before .before .before .before .before .before .before .before .before .before .before .line-at .ensures .on, c .before .before .before .before .before .before .before .before .before .before .before .before .line-at .ensures .rest)
+loop-less c =
+    let line = c .before .before .before .before .before .before .before .before .before .before .before .before
+    .line-at .ensures in
+    omega (arith, line .on, line .rest)
 
 loop-again : tie.Need-loop-again Inv-loop μ-loop
-loop-again c = reached-turn (c .before .before .before .before .before .before .before .before .before .before .before .before .before .before .before .loop .inv) (c .before .before .before .before .before .before .before .before .before .before .before .before .line-at .ensures) _ (sym (c .before .before .before .before .before .before .before .before .before .before .take-row .ensures) ∙ c .before .before .before .before .before .before .before .before .row .given .1) (c .before .store .ensures)
+loop-again c =
+    let row = c .before .before .before .before .before .before .before .before in
+    let line = row .before .before .before .before in
+    reached-turn (line .before .before .before .loop .inv) (line .line-at .ensures) _
+    (sym (row .before .before .take-row .ensures) ∙ row .row .given .1)
+    (c .before .store .ensures)
 
 returns-2 : tie.Need-returns-2 Inv-loop μ-loop
 returns-2 c = reached-end (c .before .before .loop .inv) (c .if1 .left)

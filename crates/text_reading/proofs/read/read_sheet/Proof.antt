@@ -1,4 +1,5 @@
--- `text_reading::read::read_sheet` meets its contract: 11 first, then the lines, then what is handed over. Assumes nothing.
+-- `text_reading::read::read_sheet` meets its contract: 11 first, then the lines, then what is handed over.
+-- Assumes nothing.
 use mathlib.Core.Path.{sym}
 use denote.Ref.{now}
 use borrow.Author.Needs.{needs}
@@ -10,20 +11,39 @@ use Rattle.text_reading.proofs.read.read_sheet.Tie as tie
 
 -- the lent lists at entry
 abbrev lent : tie.Start → Lists
-lent s = record { wanted = now (s .args .wanted); weight = now (s .args .weight); left = now (s .args .left); right = now (s .args .right); distance = now (s .args .distance) }
+lent s = record {
+  wanted = now (s .args .wanted);
+  weight = now (s .args .weight);
+  left = now (s .args .left);
+  right = now (s .args .right);
+  distance = now (s .args .distance);
+}
 
 -- the work arrays after the loop over the lines
 abbrev work : tie.After-read-lines → Lists
-work c = let l = c .read-lines .last in record { wanted = l .1 .0; weight = l .1 .1 .0; left = l .1 .1 .1 .0; right = l .1 .1 .1 .1 .0; distance = l .1 .1 .1 .1 .1 .0 }
+work c =
+    let l = c .read-lines .last in
+    record {
+      wanted = l .1 .0;
+      weight = l .1 .1 .0;
+      left = l .1 .1 .1 .0;
+      right = l .1 .1 .1 .1 .0;
+      distance = l .1 .1 .1 .1 .1 .0;
+    }
 
 sizes : (c : tie.After-found) → WorkArrays (work (c .before .before))
-sizes c = scanned-sizes (outcome (now (c .before .before .before .before .before .before .before .before .before .before .before .before .args .text))) _ (work (c .before .before)) _ (c .before .before .read-lines .ensures) (c .found .given .1)
+sizes c =
+    scanned-sizes (outcome (now (c .before .before .before .before .before .before .before .before .before .before
+    .before .before .args .text))) _ (work (c .before .before)) _ (c .before .before .read-lines .ensures)
+    (c .found .given .1)
 
 refused-requires : tie.Need-refused-requires
 refused-requires c κs = search needs
 
 returns : tie.Need-returns
-returns c = let s = c .before .before .before .before .before in long-text (now (s .args .text)) (lent s) _ (c .before .if1 .taken) (c .refused .ensures)
+returns c =
+    let s = c .before .before .before .before .before in
+    long-text (now (s .args .text)) (lent s) _ (c .before .if1 .taken) (c .refused .ensures)
 
 read-lines-requires : tie.Need-read-lines-requires
 read-lines-requires c κs = search needs
@@ -35,7 +55,11 @@ enum-told : tie.Need-enum-told
 enum-told c = search needs
 
 returns-2 : tie.Need-returns-2
-returns-2 c = let s = c .before .before .before .before .before .before .before .before .before .before .before .before in read-bad (now (s .args .text)) _ (work (c .before .before)) (lent s) (c .before .before .before .before .before .before .before .before .if1 .left) (c .before .before .read-lines .ensures) _ (c .enum-told .given .1)
+returns-2 c =
+    let s = c .before .before .before .before .before .before .before .before .before .before .before .before in
+    read-bad (now (s .args .text)) _ (work (c .before .before)) (lent s)
+    (c .before .before .before .before .before .before .before .before .if1 .left)
+    (c .before .before .read-lines .ensures) _ (c .enum-told .given .1)
 
 slice-aggregate-hand-over : tie.Need-slice-aggregate-hand-over
 slice-aggregate-hand-over c = sym (sizes (c .before .before) .wanted)
@@ -53,7 +77,8 @@ slice-aggregate-hand-over-5 : tie.Need-slice-aggregate-hand-over-5
 slice-aggregate-hand-over-5 c = sym (sizes (c .before .before .before .before .before .before) .distance)
 
 hand-over-requires : tie.Need-hand-over-requires
-hand-over-requires c κs = sizes (c .before .before .before .before .before .before .before .before .before .before .before)
+hand-over-requires c κs =
+    sizes (c .before .before .before .before .before .before .before .before .before .before .before)
 
 same-length : tie.Need-same-length
 same-length c = search needs
@@ -71,7 +96,20 @@ same-length-5 : tie.Need-same-length-5
 same-length-5 c = search needs
 
 returns-3 : tie.Need-returns-3
-returns-3 c = let s = c .before .before .before .before .before .before .before .before .before .before .before .before .before .before .before .before .before .before .before .before .before .before .before .before .before .before .before .before .before .before .before in read-sheet (now (s .args .text)) _ (work (c .before .before .before .before .before .before .before .before .before .before .before .before .before .before .before .before .before .before .before .before .before)) (lent s) (c .before .before .before .before .before .before .before .before .before .before .before .before .before .before .before .before .before .before .before .before .before .before .before .before .before .before .before .if1 .left) (c .before .before .before .before .before .before .before .before .before .before .before .before .before .before .before .before .before .before .before .before .before .read-lines .ensures) _ _ _ (c .before .before .before .before .before .before .before .before .before .before .before .before .before .before .before .before .before .before .before .found .given .1) (c .before .before .before .before .before .before .before .hand-over .ensures)
+returns-3 c =
+    let s = c .before .before .before .before .before .before .before .before .before .before .before .before .before
+    .before .before .before .before .before .before .before .before .before .before .before .before .before .before
+    .before .before .before .before in
+    read-sheet (now (s .args .text)) _
+    (work (c .before .before .before .before .before .before .before .before .before .before .before .before .before
+    .before .before .before .before .before .before .before .before)) (lent s)
+    (c .before .before .before .before .before .before .before .before .before .before .before .before .before .before
+    .before .before .before .before .before .before .before .before .before .before .before .before .before .if1
+    .left) (c .before .before .before .before .before .before .before .before .before .before .before .before .before
+    .before .before .before .before .before .before .before .before .read-lines .ensures) _ _ _
+    (c .before .before .before .before .before .before .before .before .before .before .before .before .before .before
+    .before .before .before .before .before .found .given .1)
+    (c .before .before .before .before .before .before .before .hand-over .ensures)
 
 pub read-sheet-spec : {M : Type 1} → statement M
 read-sheet-spec =

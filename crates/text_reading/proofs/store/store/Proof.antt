@@ -8,7 +8,13 @@ use Rattle.text_reading.proofs.store.store.Tie as tie
 
 -- the work arrays at entry
 abbrev lent : tie.Start → Lists
-lent s = record { wanted = now (s .args .wanted); weight = now (s .args .weight); left = now (s .args .left); right = now (s .args .right); distance = now (s .args .distance) }
+lent s = record {
+  wanted = now (s .args .wanted);
+  weight = now (s .args .weight);
+  left = now (s .args .left);
+  right = now (s .args .right);
+  distance = now (s .args .distance);
+}
 
 enum-known-row : tie.Need-enum-known-row
 enum-known-row c = search needs
@@ -16,8 +22,8 @@ enum-known-row c = search needs
 store-label-requires : tie.Need-store-label-requires
 store-label-requires c κs = search needs
 
-add-t16 : tie.Need-add-t16
-add-t16 c = search needs
+add-t17 : tie.Need-add-t17
+add-t17 c = search needs
 
 enum-known-row-2 : tie.Need-enum-known-row-2
 enum-known-row-2 c = search needs
@@ -25,14 +31,21 @@ enum-known-row-2 c = search needs
 store-gap-requires : tie.Need-store-gap-requires
 store-gap-requires c κs = search needs
 
-add-t21 : tie.Need-add-t21
-add-t21 c = search needs
+add-t23 : tie.Need-add-t23
+add-t23 c = search needs
 
 returns : tie.Need-returns
-returns c = let s = c .before .before .before .before .before .before in stored-label (s .args .row) _ (s .args .counts) (lent s) _ _ (c .before .before .before .before .row .given .1) (c .store-label .ensures .0) (c .store-label .ensures .1)
+returns c =
+    let s = c .before .before .before .before .before .before in
+    stored-label (s .args .row) _ (s .args .counts) (lent s) _ _ (c .before .before .before .before .row .given .1)
+    (c .store-label .ensures .0) (c .store-label .ensures .1)
 
 returns-2 : tie.Need-returns-2
-returns-2 c = let s = c .before .before .before .before .before .before .before in stored-gap (s .args .row) _ (s .args .counts) (lent s) _ _ _ (c .before .before .before .before .before .row2 .given .1) (c .store-gap .ensures .0) (c .store-gap .ensures .1) (c .store-gap .ensures .2)
+returns-2 c =
+    let s = c .before .before .before .before .before .before .before in
+    stored-gap (s .args .row) _ (s .args .counts) (lent s) _ _ _
+    (c .before .before .before .before .before .row2 .given .1) (c .store-gap .ensures .0) (c .store-gap .ensures .1)
+    (c .store-gap .ensures .2)
 
 pub store-spec : {M : Type 1} → statement M
 store-spec =
@@ -40,9 +53,9 @@ store-spec =
     (tie.spec
     enum-known-row
     store-label-requires
-    add-t16
+    add-t17
     enum-known-row-2
     store-gap-requires
-    add-t21
+    add-t23
     returns
     returns-2)

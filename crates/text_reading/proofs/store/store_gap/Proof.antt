@@ -1,8 +1,9 @@
--- `text_reading::store::store_gap` meets its contract: stored below 192. Assumes nothing.
+-- `text_reading::store::store_gap` meets its contract: stored below the most gaps. Assumes nothing.
 use native.Mathlib.Omega.{arith}
 use mathlib.Core.Path.{refl}
 use borrow.Author.Tests.{lt-ltb, le-ltb}
 use borrow.Author.Needs.{needs}
+use Rattle.ground.specs.Limits.{gapsMost}
 use Rattle.text_reading.proofs.store.store_gap.Statement.{statement}
 use Rattle.text_reading.proofs.store.store_gap.Tie as tie
 
@@ -25,10 +26,12 @@ element-set-from-g : tie.Need-element-set-from-g
 element-set-from-g c = search needs
 
 returns : tie.Need-returns
-returns c = let s = c .before .before in simp (lt-ltb (s .args .k) 192 (omega arith)) (refl, refl, search needs)
+returns c =
+    let s = c .before .before in
+    simp (lt-ltb (s .args .gap .0) gapsMost (omega arith)) (refl, refl, search needs)
 
 returns-2 : tie.Need-returns-2
-returns-2 c = let s = c .before in simp (le-ltb (s .args .k) 192 (c .if1 .left)) (search needs)
+returns-2 c = let s = c .before in simp (le-ltb (s .args .gap .0) gapsMost (c .if1 .left)) (search needs)
 
 pub store-gap-spec : {M : Type 1} → statement M
 store-gap-spec =

@@ -35,7 +35,11 @@ returns-2 : tie.Need-returns-2 Inv-loop μ-loop
 returns-2 c =
     let a = c .before .before .before .before .before .before .args in
     let l = c .before .before .before .before .loop in
-    rw (l .inv .1, same-drop (a .field .now) (a .word .now) (l .i) (omega arith) (omega arith), ne-eqb _ _ (c .if2 .taken))
+    rw (
+      l .inv .1,
+      same-drop (a .field .now) (a .word .now) (l .i) (omega arith) (omega arith),
+      ne-eqb _ _ (c .if2 .taken),
+    )
 
 add-i : tie.Need-add-i Inv-loop μ-loop
 add-i c = search needs
@@ -47,15 +51,26 @@ loop-again : tie.Need-loop-again Inv-loop μ-loop
 loop-again c =
     let a = c .before .before .before .before .before .before .args in
     let l = c .before .before .before .before .loop in
-    let agree : getD (a .field .now) (l .i) 0 ≡ getD (a .word .now) (l .i) 0 = omega arith in
-    (omega arith, l .inv .1 ∙ rw (add-one (l .i), same-drop (a .field .now) (a .word .now) (l .i) (omega arith) (omega arith), eq-eqb _ _ agree))
+    let agree : getD (a .field .now) (l .i) 0 ≡ getD (a .word .now) (l .i) 0 = omega arith in (
+      omega arith,
+      l .inv .1 ∙ rw (
+        add-one (l .i),
+        same-drop (a .field .now) (a .word .now) (l .i) (omega arith) (omega
+            arith),
+        eq-eqb _ _ agree,
+      ),
+    )
 
 returns-3 : tie.Need-returns-3 Inv-loop μ-loop
 unfolding same
 returns-3 c =
     let a = c .before .before .before .args in
     let l = c .before .loop in
-    rw (l .inv .1, drop-of-length-le (a .field .now) {i = l .i} (omega arith), drop-of-length-le (a .word .now) {i = l .i} (omega arith))
+    rw (
+      l .inv .1,
+      drop-of-length-le (a .field .now) {i = l .i} (omega arith),
+      drop-of-length-le (a .word .now) {i = l .i} (omega arith),
+    )
 
 pub is-word-spec : {M : Type 1} → statement M
 is-word-spec =

@@ -33,18 +33,24 @@ returns-3 : tie.Need-returns-3 Inv-loop μ-loop
 returns-3 c =
     let f = c .before .before .before .before .before .before .args .field .now in
     let l = c .before .before .before .loop in
-    ap natural (told-stop f (l .i) (l .value) (l .inv .1) (omega arith) (below-no-digit (getD f (l .i) 0) (omega arith)))
+    ap natural (told-stop f (l .i) (l .value) (l .inv .1) (omega arith)
+    (below-no-digit (getD f (l .i) 0) (omega arith)))
 
 returns-4 : tie.Need-returns-4 Inv-loop μ-loop
 returns-4 c =
     let f = c .before .before .before .before .before .before .before .args .field .now in
     let l = c .before .before .before .before .loop in
-    ap natural (told-stop f (l .i) (l .value) (l .inv .1) (omega arith) (above-no-digit (getD f (l .i) 0) (omega arith)))
+    ap natural (told-stop f (l .i) (l .value) (l .inv .1) (omega arith)
+    (above-no-digit (getD f (l .i) 0) (omega arith)))
 
 mul-value : tie.Need-mul-value Inv-loop μ-loop
 mul-value c =
     let l = c .before .before .before .before .loop in
-    omega (arith, told-small (c .before .before .before .before .before .before .before .args .field .now) (l .i) (l .value) (l .inv .1) (omega arith) (omega arith))
+    omega (
+      arith,
+      told-small (c .before .before .before .before .before .before .before .args .field .now) (l .i) (l
+          .value) (l .inv .1) (omega arith) (omega arith),
+    )
 
 cast-value : tie.Need-cast-value Inv-loop μ-loop
 cast-value c = omega arith
@@ -52,7 +58,11 @@ cast-value c = omega arith
 add-value : tie.Need-add-value Inv-loop μ-loop
 add-value c =
     let l = c .before .before .before .before .loop in
-    omega (arith, told-small (c .before .before .before .before .before .before .before .args .field .now) (l .i) (l .value) (l .inv .1) (omega arith) (omega arith))
+    omega (
+      arith,
+      told-small (c .before .before .before .before .before .before .before .args .field .now) (l .i) (l
+          .value) (l .inv .1) (omega arith) (omega arith),
+    )
 
 add-i : tie.Need-add-i Inv-loop μ-loop
 add-i c = search needs
@@ -63,13 +73,17 @@ loop-less c = search needs
 loop-again : tie.Need-loop-again Inv-loop μ-loop
 loop-again c =
     let f = c .before .before .before .before .before .before .before .args .field .now in
-    let l = c .before .before .before .before .loop in
-    (omega arith, told-more f (l .i) (l .value) (l .inv .1) (omega arith) (is-digit (getD f (l .i) 0) (omega arith) (omega arith)))
+    let l = c .before .before .before .before .loop in (
+      omega arith,
+      told-more f (l .i) (l .value) (l .inv .1) (omega arith) (is-digit (getD f (l .i) 0) (omega arith)
+          (omega arith)),
+    )
 
 returns-5 : tie.Need-returns-5 Inv-loop μ-loop
 returns-5 c =
     let l = c .before .loop in
-    ap natural (told-all (c .before .before .before .before .args .field .now) (l .i) (l .value) (l .inv .1) (omega arith) (omega arith) (omega arith))
+    ap natural (told-all (c .before .before .before .before .args .field .now) (l .i) (l .value) (l .inv .1)
+    (omega arith) (omega arith) (omega arith))
 
 pub number-spec : {M : Type 1} → statement M
 number-spec =

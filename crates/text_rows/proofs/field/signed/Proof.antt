@@ -24,7 +24,10 @@ negated-requires : tie.Need-negated-requires
 negated-requires c κs = search needs
 
 returns : tie.Need-returns
-returns c = c .negated .ensures ∙ ap integer (signed-minus (c .before .before .before .before .before .before .args .field .now) (omega arith) (c .before .before .if2 .taken))
+returns c =
+    c .negated .ensures ∙ ap integer
+    (signed-minus (c .before .before .before .before .before .before .args .field .now) (omega arith)
+    (c .before .before .if2 .taken))
 
 unsigned-requires : tie.Need-unsigned-requires
 unsigned-requires c κs = search needs

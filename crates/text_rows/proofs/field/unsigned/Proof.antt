@@ -19,13 +19,21 @@ enum-told : tie.Need-enum-told
 enum-told c = search needs
 
 returns : tie.Need-returns
-returns c = rw (natural-none (number (c .before .before .before .before .args .field .now)) (c .before .before .number .ensures) (c .enum-told .given .1))
+returns c =
+    rw (natural-none (number (c .before .before .before .before .args .field .now))
+    (c .before .before .number .ensures) (c .enum-told .given .1))
 
-told : (c : tie.After-known-told) → number (c .before .before .before .before .before .args .field .now) ≡ some (c .before .value .given .0 .0)
-told c = natural-some (number (c .before .before .before .before .before .args .field .now)) (c .before .before .before .number .ensures) (c .before .value .given .1)
+told :
+    (c : tie.After-known-told) → number (c .before .before .before .before .before .args .field .now) ≡ some
+    (c .before .value .given .0 .0)
+told c =
+    natural-some (number (c .before .before .before .before .before .args .field .now))
+    (c .before .before .before .number .ensures) (c .before .value .given .1)
 
 small : (c : tie.After-known-told) → c .before .value .given .0 .0 < 1000000000
-small c = number-small (c .before .before .before .before .before .args .field .now) (c .before .value .given .0 .0) (told c)
+small c =
+    number-small (c .before .before .before .before .before .args .field .now) (c .before .value .given .0 .0)
+    (told c)
 
 cast-t4 : tie.Need-cast-t4
 cast-t4 c = plain-fits (c .before .value .given .0 .0) (small c)

@@ -14,7 +14,8 @@ unsigned-requires : tie.Need-unsigned-requires
 unsigned-requires c κs = search needs
 
 returns-2 : tie.Need-returns-2
-returns-2 c = c .unsigned .ensures ∙ ap integer (weight-plain (c .before .before .before .args .field .now) (omega arith))
+returns-2 c =
+    c .unsigned .ensures ∙ ap integer (weight-plain (c .before .before .before .args .field .now) (omega arith))
 
 pub weight-spec : {M : Type 1} → statement M
 weight-spec = tie.close (tie.spec returns unsigned-requires returns-2)

@@ -15,10 +15,14 @@ shared-slice-read-if2 : tie.Need-shared-slice-read-if2
 shared-slice-read-if2 c = search needs
 
 returns-2 : tie.Need-returns-2
-returns-2 c = let s = c .before .before .before in end-return (s .args .text .now) (s .args .at) (s .args .feed) (omega arith) (c .if2 .taken)
+returns-2 c =
+    let s = c .before .before .before in
+    end-return (s .args .text .now) (s .args .at) (s .args .feed) (omega arith) (c .if2 .taken)
 
 returns-3 : tie.Need-returns-3
-returns-3 c = let s = c .before .before .before in end-other (s .args .text .now) (s .args .at) (s .args .feed) (omega arith) (c .if2 .left)
+returns-3 c =
+    let s = c .before .before .before in
+    end-other (s .args .text .now) (s .args .at) (s .args .feed) (omega arith) (c .if2 .left)
 
 pub end-before-spec : {M : Type 1} → statement M
 end-before-spec = tie.close (tie.spec returns sub-last shared-slice-read-if2 returns-2 returns-3)

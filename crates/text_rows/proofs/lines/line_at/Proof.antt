@@ -1,4 +1,5 @@
--- `text_rows::lines::line_at` meets its contract. The loop's invariant: no LF is passed. The measure is what is left of the text. Assumes nothing.
+-- `text_rows::lines::line_at` meets its contract. The loop's invariant: no LF is passed.
+-- The measure is what is left of the text. Assumes nothing.
 use Prim.Native.Nat.{_≤_, _-_}
 use native.Mathlib.Omega.{arith}
 use lib.ListN.{length}
@@ -28,7 +29,12 @@ add-t11 : tie.Need-add-t11 Inv-loop μ-loop
 add-t11 c = omega arith
 
 returns : tie.Need-returns Inv-loop μ-loop
-returns c = let s = c .before .before .before .before .before .before .before in let i = c .before .before .before .before .loop .i in rw (c .end-before .ensures) (fed-line (s .args .text .now) (s .args .from) i (c .before .before .before .before .loop .inv .0) (c .before .before .before .loop-test .taken) (c .before .if1 .taken) (c .before .before .before .before .loop .inv .2))
+returns c =
+    let s = c .before .before .before .before .before .before .before in
+    let i = c .before .before .before .before .loop .i in
+    rw (c .end-before .ensures) (fed-line (s .args .text .now) (s .args .from) i
+    (c .before .before .before .before .loop .inv .0) (c .before .before .before .loop-test .taken)
+    (c .before .if1 .taken) (c .before .before .before .before .loop .inv .2))
 
 add-i : tie.Need-add-i Inv-loop μ-loop
 add-i c = omega arith
@@ -37,10 +43,19 @@ loop-less : tie.Need-loop-less Inv-loop μ-loop
 loop-less c = omega arith
 
 loop-again : tie.Need-loop-again Inv-loop μ-loop
-loop-again c = (omega arith, omega arith, passed-more (c .before .before .before .before .before .before .args .text .now) (c .before .before .before .before .before .before .args .from .at) (c .before .before .before .loop .i) (c .before .before .before .loop .inv .2) (c .if1 .left))
+loop-again c = (
+  omega arith,
+  omega arith,
+  passed-more (c .before .before .before .before .before .before .args .text .now) (c
+      .before .before .before .before .before .before .args .from .at) (c .before .before .before .loop .i)
+      (c .before .before .before .loop .inv .2) (c .if1 .left),
+)
 
 returns-2 : tie.Need-returns-2 Inv-loop μ-loop
-returns-2 c = let s = c .before .before .before .before in last-line (s .args .text .now) (s .args .from) (c .before .loop .i) (s .pre .0) (c .before .loop .inv .1) (c .loop-test .left) (c .before .loop .inv .2)
+returns-2 c =
+    let s = c .before .before .before .before in
+    last-line (s .args .text .now) (s .args .from) (c .before .loop .i) (s .pre .0) (c .before .loop .inv .1)
+    (c .loop-test .left) (c .before .loop .inv .2)
 
 pub line-at-spec : {M : Type 1} → statement M
 line-at-spec =

@@ -18,7 +18,8 @@ label-row-requires c κs = search needs
 returns : tie.Need-returns
 unfolding rowOf
 returns c =
-    let label : same (c .before .before .before .before .before .before .before .before .args .word .now) labelWord ≡ true = sym (c .before .before .is-word .ensures) ∙ c .before .if1 .taken in
+    let label : same (c .before .before .before .before .before .before .before .before .args .word .now) labelWord
+    ≡ true = sym (c .before .before .is-word .ensures) ∙ c .before .if1 .taken in
     rw label (c .label-row .ensures)
 
 slice-aggregate-is-word-2 : tie.Need-slice-aggregate-is-word-2
@@ -33,15 +34,21 @@ gap-row-requires c κs = search needs
 returns-2 : tie.Need-returns-2
 unfolding rowOf
 returns-2 c =
-    let no-label : same (c .before .before .before .before .before .before .before .before .before .before .before .args .word .now) labelWord ≡ false = sym (c .before .before .before .before .before .is-word .ensures) ∙ c .before .before .before .before .if1 .left in
-    let gap : same (c .before .before .before .before .before .before .before .before .before .before .before .args .word .now) gapWord ≡ true = sym (c .before .before .is-word2 .ensures) ∙ c .before .if2 .taken in
+    let no-label : same (c .before .before .before .before .before .before .before .before .before .before .before
+    .args .word .now) labelWord ≡ false = sym (c .before .before .before .before .before .is-word .ensures) ∙ c
+    .before .before .before .before .if1 .left in
+    let gap : same (c .before .before .before .before .before .before .before .before .before .before .before .args
+    .word .now) gapWord ≡ true = sym (c .before .before .is-word2 .ensures) ∙ c .before .if2 .taken in
     rw (no-label, gap) (c .gap-row .ensures)
 
 returns-3 : tie.Need-returns-3
 unfolding rowOf
 returns-3 c =
-    let no-label : same (c .before .before .before .before .before .before .before .before .before .before .args .word .now) labelWord ≡ false = sym (c .before .before .before .before .is-word .ensures) ∙ c .before .before .before .if1 .left in
-    let no-gap : same (c .before .before .before .before .before .before .before .before .before .before .args .word .now) gapWord ≡ false = sym (c .before .is-word2 .ensures) ∙ c .if2 .left in
+    let no-label : same (c .before .before .before .before .before .before .before .before .before .before .args .word
+    .now) labelWord ≡ false = sym (c .before .before .before .before .is-word .ensures) ∙ c .before .before .before
+    .if1 .left in
+    let no-gap : same (c .before .before .before .before .before .before .before .before .before .before .args .word
+    .now) gapWord ≡ false = sym (c .before .is-word2 .ensures) ∙ c .if2 .left in
     rw (no-label, no-gap)
 
 pub row-of-spec : {M : Type 1} → statement M

@@ -1,4 +1,5 @@
--- `text_rows::rows::take_row` meets its contract: the parts between the commas are the line's fields, and there must be four.
+-- `text_rows::rows::take_row` meets its contract: the parts between the commas are the line's fields,
+-- and there must be four.
 use Rattle.text_rows.proofs.FieldLaws.{one-field, two-fields, three-fields, four-fields, more-fields}
 use native.Mathlib.Omega.{arith}
 use borrow.Author.Needs.{needs}
@@ -22,7 +23,8 @@ comma-from-requires-2 c κs = search needs
 returns-2 : tie.Need-returns-2
 returns-2 c =
     let s = c .before .before .before .before .before .args in
-    two-fields (s .labels) (s .line .now) (c .before .before .before .comma-from .ensures) (c .before .before .if1 .left) (c .before .comma-from2 .ensures) (c .if2 .taken)
+    two-fields (s .labels) (s .line .now) (c .before .before .before .comma-from .ensures)
+    (c .before .before .if1 .left) (c .before .comma-from2 .ensures) (c .if2 .taken)
 
 add-comma-from-2 : tie.Need-add-comma-from-2
 add-comma-from-2 c = search needs
@@ -33,7 +35,9 @@ comma-from-requires-3 c κs = search needs
 returns-3 : tie.Need-returns-3
 returns-3 c =
     let s = c .before .before .before .before .before .before .before .args in
-    three-fields (s .labels) (s .line .now) (c .before .before .before .before .before .comma-from .ensures) (c .before .before .before .before .if1 .left) (c .before .before .before .comma-from2 .ensures) (c .before .before .if2 .left) (c .before .comma-from3 .ensures) (c .if3 .taken)
+    three-fields (s .labels) (s .line .now) (c .before .before .before .before .before .comma-from .ensures)
+    (c .before .before .before .before .if1 .left) (c .before .before .before .comma-from2 .ensures)
+    (c .before .before .if2 .left) (c .before .comma-from3 .ensures) (c .if3 .taken)
 
 add-comma-from-3 : tie.Need-add-comma-from-3
 add-comma-from-3 c = search needs
@@ -44,7 +48,12 @@ comma-from-requires-4 c κs = search needs
 returns-4 : tie.Need-returns-4
 returns-4 c =
     let s = c .before .before .before .before .before .before .before .before .before .args in
-    more-fields (s .labels) (s .line .now) (c .before .before .before .before .before .before .before .comma-from .ensures) (c .before .before .before .before .before .before .if1 .left) (c .before .before .before .before .before .comma-from2 .ensures) (c .before .before .before .before .if2 .left) (c .before .before .before .comma-from3 .ensures) (c .before .before .if3 .left) (c .before .comma-from4 .ensures) (λ e. omega arith)
+    more-fields (s .labels) (s .line .now)
+    (c .before .before .before .before .before .before .before .comma-from .ensures)
+    (c .before .before .before .before .before .before .if1 .left)
+    (c .before .before .before .before .before .comma-from2 .ensures) (c .before .before .before .before .if2 .left)
+    (c .before .before .before .comma-from3 .ensures) (c .before .before .if3 .left) (c .before .comma-from4 .ensures)
+    (λ e. omega arith)
 
 sub-row-of : tie.Need-sub-row-of
 sub-row-of c = search needs
@@ -96,8 +105,17 @@ row-of-requires c κs = search needs
 
 returns-5 : tie.Need-returns-5
 returns-5 c =
-    let s = c .before .before .before .before .before .before .before .before .before .before .before .before .before .before .args in
-    four-fields (s .labels) (s .line .now) (c .before .before .before .before .before .before .before .before .before .before .before .before .comma-from .ensures) (c .before .before .before .before .before .before .before .before .before .before .before .if1 .left) (c .before .before .before .before .before .before .before .before .before .before .comma-from2 .ensures) (c .before .before .before .before .before .before .before .before .before .if2 .left) (c .before .before .before .before .before .before .before .before .comma-from3 .ensures) (c .before .before .before .before .before .before .before .if3 .left) (c .before .before .before .before .before .before .comma-from4 .ensures) (c .before .before .before .before .before .if4 .left) (c .row-of .ensures)
+    let s = c .before .before .before .before .before .before .before .before .before .before .before .before .before
+    .before .args in
+    four-fields (s .labels) (s .line .now)
+    (c .before .before .before .before .before .before .before .before .before .before .before .before .comma-from
+    .ensures) (c .before .before .before .before .before .before .before .before .before .before .before .if1 .left)
+    (c .before .before .before .before .before .before .before .before .before .before .comma-from2 .ensures)
+    (c .before .before .before .before .before .before .before .before .before .if2 .left)
+    (c .before .before .before .before .before .before .before .before .comma-from3 .ensures)
+    (c .before .before .before .before .before .before .before .if3 .left)
+    (c .before .before .before .before .before .before .comma-from4 .ensures)
+    (c .before .before .before .before .before .if4 .left) (c .row-of .ensures)
 
 pub take-row-spec : {M : Type 1} → statement M
 take-row-spec =

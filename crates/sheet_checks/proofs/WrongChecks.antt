@@ -1,0 +1,94 @@
+-- What wrong checks would let pass or tell in another order, and what the table says of it:
+-- sheets with one or two faults, computed.
+-- Nothing cites them.
+use Prim.Native.Nat.{ℕ, zero, suc, _+_}
+use mathlib.Core.Path.{_≡_, refl}
+use mathlib.Core.List.{List, [], _∷_}
+use lib.IntN.{ℤ, pos, negℤ}
+use Rattle.ground.specs.Limits.{distanceMost, wantedMost, weightMost}
+use Rattle.sheet_checks.specs.Lent.{Read, Written, lists}
+use Rattle.sheet_checks.specs.Refusals.{refuse, pass, offender, table}
+
+-- ---- sheets, and what is lent to write
+
+abbrev lent : (wanted weight : List ℤ) (left right : List ℕ) (distance : List ℤ) → Read
+lent wanted weight left right distance = record { wanted = wanted; weight = weight; gaps = lists left right distance }
+
+-- the same entry so often
+abbrev many : {A : Type 0} → ℕ → A → List A
+many zero a = []
+many (suc n) a = a ∷ many n a
+
+-- room for so many labels and gaps, and so long a ring buffer
+abbrev room : (labels gaps ring : ℕ) → Written
+room labels gaps ring = record {
+  place-num = many labels (pos 0);
+  place-den = many labels (pos 0);
+  mult-num = many gaps (pos 0);
+  mult-den = many gaps (pos 0);
+  ring = many ring 0;
+  carried = many gaps 0;
+}
+
+-- two labels with nothing wrong
+abbrev wants : List ℤ
+wants = pos 0 ∷ pos 0 ∷ []
+
+abbrev weights : List ℤ
+weights = pos 1 ∷ pos 1 ∷ []
+
+-- and a gap between them
+right-sheet : table (lent wants weights (0 ∷ []) (1 ∷ []) (pos 10 ∷ [])) (room 2 1 2) ≡ pass
+unfolding table offender
+right-sheet = refl
+
+-- ---- one fault
+
+labels-49 : table (lent (many 49 (pos 0)) (many 49 (pos 1)) [] [] []) (room 49 0 49) ≡ refuse 1 0
+unfolding table offender
+labels-49 = refl
+
+-- the ring buffer is held to the label count
+ring-short : table (lent wants weights (0 ∷ []) (1 ∷ []) (pos 10 ∷ [])) (room 2 1 1) ≡ refuse 4 0
+unfolding table offender
+ring-short = refl
+
+-- one unit off the plate, on either side
+off-plate-right : table (lent (pos 0 ∷ pos (wantedMost + 1) ∷ []) weights [] [] []) (room 2 0 2) ≡ refuse 5 1
+unfolding table offender
+off-plate-right = refl
+
+off-plate-left : table (lent (pos 0 ∷ negℤ (pos (wantedMost + 1)) ∷ []) weights [] [] []) (room 2 0 2) ≡ refuse 5 1
+unfolding table offender
+off-plate-left = refl
+
+-- an end that equals the label count is no label
+left-stranger : table (lent wants weights (2 ∷ []) (1 ∷ []) (pos 10 ∷ [])) (room 2 1 2) ≡ refuse 7 0
+unfolding table offender
+left-stranger = refl
+
+right-stranger : table (lent wants weights (0 ∷ []) (2 ∷ []) (pos 10 ∷ [])) (room 2 1 2) ≡ refuse 7 0
+unfolding table offender
+right-stranger = refl
+
+-- a sheet of no labels has no gap
+no-labels : table (lent [] [] (0 ∷ []) (0 ∷ []) (pos 0 ∷ [])) (room 0 1 0) ≡ refuse 7 0
+unfolding table offender
+no-labels = refl
+
+-- a gap one unit below its limit
+gap-low : table (lent wants weights (0 ∷ []) (1 ∷ []) (negℤ (pos (distanceMost + 1)) ∷ [])) (room 2 1 2) ≡ refuse 8 0
+unfolding table offender
+gap-low = refl
+
+-- ---- two faults: the lower number is told
+
+-- label 1 is off the plate, and label 0 weighs too little
+place-before-weight : table (lent (pos 0 ∷ pos (wantedMost + 1) ∷ []) (pos 0 ∷ pos 1 ∷ []) [] [] []) (room 2 0 2) ≡ refuse 5 1
+unfolding table offender
+place-before-weight = refl
+
+-- label 1 weighs too much, and gap 0 joins a stranger
+weight-before-stranger : table (lent wants (pos 1 ∷ pos (weightMost + 1) ∷ []) (0 ∷ []) (2 ∷ []) (pos 10 ∷ [])) (room 2 1 2) ≡ refuse 6 1
+unfolding table offender
+weight-before-stranger = refl

@@ -1,0 +1,48 @@
+-- Texts that a wrong reader would answer otherwise (document 01, "Sheet text" and "Refusal table").
+use Prim.Native.Nat.{ℕ, suc}
+use mathlib.Core.Path.{_≡_, refl, sym}
+use mathlib.Core.List.{List}
+use native.Mathlib.Omega.{arith}
+use lib.ListN.{length, replicate}
+use lib.IntN.{pos}
+use Rattle.text_rows.specs.Bytes.{bytes}
+use Rattle.text_rows.specs.Lines.{lines, fields}
+use Rattle.text_rows.specs.Numeral.{allDigits, valueOf, number, signed, weightOf}
+use Rattle.text_rows.specs.Taking.{same, rowOf}
+use Rattle.text_reading.specs.Texts.{textMost, bad-line, readFrom, outcome, Lists, roomFor, refusedWith, judged, reading}
+use Rattle.text_reading.specs.Parts.{refusal}
+use Rattle.text_reading.proofs.Examples.{document-text}
+use Rattle.text_reading.proofs.ReadLaws.{long-text, short-text}
+
+-- the line told is the first bad one, not the next
+pub bad-line-told : outcome (bytes "label,0,0,1\r\nlabel,0,0,1\r\nword\r\n") ≡ bad-line 2
+unfolding lines fields allDigits valueOf number signed weightOf same rowOf readFrom
+bad-line-told = refl
+
+-- a CR at the end of the input belongs to its field
+pub lone-return : outcome (bytes "label,0,0,1\r\nlabel,1,3,1\r") ≡ bad-line 2
+unfolding lines fields allDigits valueOf number signed weightOf same rowOf readFrom
+lone-return = refl
+
+-- 16,385 bytes are refused with 11, whatever they are
+pub one-byte-more : (text : List ℕ) (b : Lists) → length text ≡ suc textMost → reading text b ≡ refusedWith 11 0 b
+one-byte-more text b e = sym (long-text text b (refusal 11 0) (omega arith) refl)
+
+-- 16,384 bytes are read
+pub no-byte-more : (text : List ℕ) (b : Lists) → length text ≡ textMost → reading text b ≡ judged (outcome text) b
+no-byte-more text b e = short-text text b (omega arith)
+
+-- lists with room for two labels, for a gap each, and for so many right labels
+abbrev rights : ℕ → Lists
+rights n = record {
+  wanted = replicate 2 (pos 0);
+  weight = replicate 2 (pos 0);
+  left = replicate 1 0;
+  right = replicate n 0;
+  distance = replicate 1 (pos 0);
+}
+
+-- a list of right labels that is too short for the gaps is refused with 4
+pub short-right : reading document-text (rights 0) ≡ refusedWith 4 0 (rights 0)
+unfolding lines fields allDigits valueOf number signed weightOf same rowOf readFrom roomFor reading
+short-right = refl
