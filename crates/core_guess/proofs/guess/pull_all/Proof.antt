@@ -24,14 +24,14 @@ returns c = c .before .before .before .before .before .before .loop .inv .1
 returns-2 : tie.Need-returns-2 Inv-loop μ-loop
 returns-2 c = c .before .before .before .before .before .before .before .loop .inv .1
 
-element-write-wish : tie.Need-element-write-wish Inv-loop μ-loop
-element-write-wish c = omega arith
-
 pull-requires : tie.Need-pull-requires Inv-loop μ-loop
 pull-requires c κs =
     let s = c .before .before .before .before .before .before .before .before .before .before .before .before .pre in
     let within = c .before .before .before .before .if2 .left in
     (s .0, (omega arith, s .2 _ within, s .3 _ within))
+
+element-write-wish : tie.Need-element-write-wish Inv-loop μ-loop
+element-write-wish c = omega arith
 
 add-turns : tie.Need-add-turns Inv-loop μ-loop
 add-turns c = omega arith
@@ -57,8 +57,8 @@ pull-all-spec =
     widest-requires
     returns
     returns-2
-    element-write-wish
     pull-requires
+    element-write-wish
     add-turns
     loop-less
     loop-again
