@@ -69,7 +69,6 @@ pub record SearchedFrom (p : Problem) (mark : List ℕ) (root : ℕ) (via up : L
   pub off : List ℤ
   pub tree : Tree (graphOf p mark) root count at queue via up off
 
--- whatever gives way, via and up are left by the last search: that from a, or that from b where b stands in another
--- block
+-- whatever gives way, via and up hold a searched block: that of a, or that of b
 abbrev pub LastSearched : Problem → List ℕ → ℕ → ℕ → (via up : List ℕ) → Type 0
 LastSearched p mark a b via up = SearchedFrom p mark a via up ⊎ SearchedFrom p mark b via up

@@ -19,7 +19,7 @@ ghost use Rattle.ground.specs.Limits.{distanceMost};
 ghost use Rattle.ground.specs.Views.{after, before};
 
 // Finds what gives way first, along chains of the marked gaps. Nothing is marked or dropped here.
-// A ring can be read out of via and up; else they are what the last search left.
+// A ring can be read out of via and up; else they hold the block of a or that of b.
 pub fn advance(
     labels: usize,
     gaps: usize,

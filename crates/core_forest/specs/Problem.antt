@@ -85,7 +85,7 @@ sheetFrom p = record {
   gap = λ e. record { left = label (nat (p .left) (e .0)); right = label (nat (p .right) (e .0)); distance = int (p .distance) (e .0); kind = kindOf (nat (p .kind) (e .0)) };
 }
 
--- ---- the problem in the work arrays, as a `requires` and as an `ensures` sees them; and where kinds do not matter
+-- ---- the problem in the work arrays, as a `requires` and as an `ensures` sees them; and of what reads no kind
 
 abbrev pub problemNow : (labels gaps : ℕ) (left right : RefT (List ℕ)) (distance : RefT (List ℤ)) (kind : RefT (List ℕ)) (wanted weight : RefT (List ℤ)) → Problem
 problemNow labels gaps left right distance kind wanted weight =

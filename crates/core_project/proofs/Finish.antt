@@ -3,7 +3,7 @@
 use mathlib.Core.Path.{_≡_, refl, sym, _∙_, ap, ap₂}
 use mathlib.Core.Bool.{Bool}
 use mathlib.Core.List.{List, [], _∷_}
-use Prim.Native.Nat.{ℕ, zero, suc, _<_}
+use Prim.Native.Nat.{ℕ, _<_}
 use lib.IntN.{ℤ, pos, negℤ, _+ℤ_, _-ℤ_, _*ℤ_}
 use lib.Signed.{_≤ℤ_}
 use lib.Dec.{eqb}
@@ -110,4 +110,4 @@ module _ (p : Problem) (mark : List ℕ) (num den load over : List ℤ) (lim : L
 -- what settling says, at both outcomes
 pub core-says : (p : Problem) (r : Found) (mark : List ℕ) (num den load over : List ℤ) (ring back : List ℕ) → Limits p → SettleSays p r mark num den load over ring back → CoreSays p r mark num den load over ring back
 core-says p Placed mark num den load over ring back lim said = finish p mark num den load over lim (said .0) (said .1)
-core-says p (Ring size) mark num den load over ring back lim said = said
+core-says p (Ring size) mark num den load over ring back lim said = said .0

@@ -2,10 +2,10 @@
 use Prim.Native.Nat.{ℕ, _+_, _≤_, _<_}
 use native.Mathlib.Omega.{arith}
 use borrow.Author.Count.{below-more}
-use mathlib.Core.Path.{_≡_, refl, sym, ap, _∙_}
+use mathlib.Core.Path.{_≡_, sym, _∙_}
 use mathlib.Core.List.{List}
-use lib.ListN.{length, getD, set, take, drop, length-set, List·getD-append}
-use lib.Seq.{drop-set-lt, drop-drop, drop-at, getD-take, getD-set-same, getD-set-other, length-take-le}
+use lib.ListN.{length, getD, set, take, drop, List·getD-append}
+use lib.Seq.{drop-at, getD-take, getD-set-same, getD-set-other, length-take-le}
 use native.Mathlib.Nat.{eq-one-of-dvd-one}
 use lib.IntN.{ℤ, pos, *ℤ-comm, *ℤ-zero}
 use lib.Signed.{_<ℤ_}
@@ -13,19 +13,11 @@ use Rattle.algebra.proofs.Whole.{parts-lt}
 use Rattle.exact.specs.declared.Fraction.{Fraction}
 use Rattle.exact.specs.Fraction.{Reduced}
 use Rattle.core_project.specs.Core.{fraction}
-use Rattle.ground.specs.Entries.{Filled, over}
-use Rattle.ground.proofs.Copying.{over-length}
+use Rattle.ground.specs.Entries.{over}
+use Rattle.ground.proofs.Copying.{filled-start, filled-turn, over-length}
 use Rattle.core_project.specs.Project.{Copied, FrontWritten, FractionsWritten}
 
 module _ {A : Type 0} where
-  filled-start : (before : List A) → Filled 0 before before
-  filled-start before = record { size = refl; beyond = refl }
-
-  -- a store at k: what stays from k on stays from k + 1 on
-  pub filled-turn : (k : ℕ) (before after : List A) (v : A) → Filled k before after → Filled (k + 1) before (set after k v)
-  filled-turn k before after v f =
-      record { size = simp length-set (f .size); beyond = drop-set-lt (k + 1) after k v (omega arith) ∙ (sym (drop-drop 1 k after) ∙ (ap (drop 1) (f .beyond) ∙ drop-drop 1 k before)) }
-
   -- an entry that a store at k leaves
   stays : (l : List A) (k j : ℕ) (v none : A) → j < k → getD (set l k v) j none ≡ getD l j none
   stays l k j v none h = getD-set-other l k j v none (λ (e : j ≡ k). omega arith)
@@ -49,7 +41,7 @@ module _ {A : Type 0} where
 
 -- The pass that reduces: after k turns the first k fractions are the source's in lowest terms.
 pub reduced-start : (num den upper lower : List ℤ) → FractionsWritten 0 num den upper lower upper lower
-reduced-start num den upper lower = record { uppers = filled-start upper; lowers = filled-start lower; reduced = λ j h. absurd (omega arith) }
+reduced-start num den upper lower = record { uppers = filled-start 0 upper; lowers = filled-start 0 lower; reduced = λ j h. absurd (omega arith) }
 
 pub reduced-turn : {k : ℕ} {num den upper₀ lower₀ upper lower : List ℤ} (q : Fraction) → FractionsWritten k num den upper₀ lower₀ upper lower → k < length upper → k < length lower → Reduced (fraction num den k) q → FractionsWritten (k + 1) num den upper₀ lower₀ (set upper k (q .num)) (set lower k (q .den))
 reduced-turn {k} {num} {den} {upper₀} {lower₀} {upper} {lower} q w above below r =

@@ -93,7 +93,16 @@ pub record RingGiven (p : Problem) (b after : Buffers) (size : ℕ) : Type 0 whe
   pub ring : IsRing (sheetFrom p) (stepsOf (take size (after .ring)) (take size (after .back)))
   pub rings : Filled size (b .ring) (after .ring)
   pub backs : Filled size (b .back) (after .back)
-  pub stays : after ≡ record { place-num = b .place-num; place-den = b .place-den; mult-num = b .mult-num; mult-den = b .mult-den; carried = b .carried; ring = after .ring; back = after .back }
+  pub stays :
+      after ≡ record {
+        place-num = b .place-num;
+        place-den = b .place-den;
+        mult-num = b .mult-num;
+        mult-den = b .mult-den;
+        carried = b .carried;
+        ring = after .ring;
+        back = after .back;
+      }
 
 abbrev pub SaysOf : Problem → Projected → (b after : Buffers) → Type 0
 SaysOf p Placed b after = Solved p b after

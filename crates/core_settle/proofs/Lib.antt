@@ -1,2 +1,3 @@
+pub mod Outlying
 pub mod Raising
 pub mod Turning

@@ -8,7 +8,7 @@ use Rattle.ground.specs.Entries.{nat}
 use Rattle.core_forest.specs.Problem.{Problem, marksOf, numbersOf, IsForest}
 use Rattle.core_advance.specs.Advance.{PushedBy, BlockedBy}
 
--- the gap is marked at a larger cost, or nothing gives way
+-- the gap is tight at a larger cost, or nothing gives way
 abbrev pub RaisedTo : Bool → (p : Problem) (a b : ℕ) (h : ℤ) (num den : ℕ → ℤ) (mark via up : List ℕ) → Type 0
 RaisedTo true p a b h num den mark via up = Reached (numbersOf p) (marksOf mark) num den
 RaisedTo false p a b h num den mark via up = PushedBy p (marksOf mark) a b h num den × BlockedBy p mark a b via up

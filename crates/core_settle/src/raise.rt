@@ -16,7 +16,7 @@ use ground::limits::LabelInts;
 ghost use Prim.Native.Nat.{_<_, _≤_};
 ghost use lib.IntN.{natAbs};
 ghost use Rattle.core_forest.specs.Problem.{Limits, problemLent, problemNow};
-ghost use Rattle.core_balance.specs.Balance.{Remarked};
+ghost use Rattle.core_balance.specs.Balance.{Remarked, Untouched};
 ghost use Rattle.core_settle.specs.Raise.{Raised};
 ghost use Rattle.ground.specs.Limits.{distanceMost};
 ghost use Rattle.ground.specs.Views.{after, before};
@@ -52,6 +52,8 @@ pub(crate) fn raise(
         let p = problemLent labels gaps left right distance kind wanted weight in
         ⌜ Raised p (before mark) (c .0) (a .0) (b .0) h r (after mark) (after via) (after up)
         × Remarked (before left) (before right) (before mark) (before den) (before load) (before over) (after mark)
+        (after den) (after load) (after over)
+        × Untouched gaps (before left) (before right) (before mark) (before den) (before load) (before over) (after mark)
         (after den) (after load) (after over) ⌝ }
 {
     measured_gap_bytes(mark);

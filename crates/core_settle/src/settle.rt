@@ -10,8 +10,9 @@ use ground::limits::LabelIndices;
 use ground::limits::LabelInts;
 ghost use Rattle.core_forest.specs.Problem.{Limits, problemLent, problemNow};
 ghost use Rattle.core_standing.specs.Standing.{Standing};
-ghost use Rattle.core_settle.specs.Settle.{SettleSays};
-ghost use Rattle.ground.specs.Views.{after};
+ghost use Rattle.core_settle.specs.Settle.{Outlying, SettleSays, settleWrites};
+ghost use Rattle.ground.specs.Entries.{Filled};
+ghost use Rattle.ground.specs.Views.{after, before};
 
 // Takes outer steps until every gap holds, or a ring of so many gaps was written.
 pub fn settle(
@@ -36,7 +37,11 @@ pub fn settle(
         × Standing p (now mark) (now num) (now den) (now load) (now over) ⌝ }
     ensures { λ r.
         let p = problemLent labels gaps left right distance kind wanted weight in
-        ⌜ SettleSays p r (after mark) (after num) (after den) (after load) (after over) (after ring) (after back) ⌝ }
+        ⌜ SettleSays p r (after mark) (after num) (after den) (after load) (after over) (after ring) (after back)
+        × Outlying p (before mark) (before num) (before den) (before load) (before over) (after mark) (after num) (after den)
+        (after load) (after over)
+        × Filled (settleWrites r) (before ring) (after ring)
+        × Filled (settleWrites r) (before back) (after back) ⌝ }
 {
     loop {
         let next = turn(

@@ -19,9 +19,9 @@ use ground::signs::turned;
 ghost use mathlib.Core.Path.{_≡_};
 ghost use Prim.Native.Nat.{_<_, _≤_};
 ghost use lib.IntN.{natAbs};
-ghost use Rattle.ground.specs.Entries.{int};
+ghost use Rattle.ground.specs.Entries.{Filled, int};
 ghost use Rattle.core_forest.specs.Problem.{Limits, problemLent, problemNow};
-ghost use Rattle.core_settle.specs.Settle.{pushOf, TurnSays};
+ghost use Rattle.core_settle.specs.Settle.{Outlying, pushOf, TurnSays, turnWrites};
 ghost use Rattle.core_standing.specs.Standing.{Standing};
 ghost use Rattle.ground.specs.Limits.{distanceMost, gapsMost};
 ghost use Rattle.ground.specs.Views.{after, before};
@@ -76,7 +76,11 @@ pub(crate) fn turn(
     ensures { λ r.
         let p = problemLent labels gaps left right distance kind wanted weight in
         ⌜ TurnSays p (before mark) (before num) (before den) r (after mark) (after num) (after den) (after load) (after over)
-        (after ring) (after back) ⌝ }
+        (after ring) (after back)
+        × Outlying p (before mark) (before num) (before den) (before load) (before over) (after mark) (after num) (after den)
+        (after load) (after over)
+        × Filled (turnWrites r) (before ring) (after ring)
+        × Filled (turnWrites r) (before back) (after back) ⌝ }
 {
     let worst = worst_gap(gaps, left, right, distance, kind, num, den);
     let Worst::Gap(e, backwards) = worst else {

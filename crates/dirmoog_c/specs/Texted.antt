@@ -14,7 +14,7 @@ use Rattle.text_listing.specs.declared.Listed.the-variants as listed
 use Rattle.text_reading.specs.Texts.{Lists, reading}
 use Rattle.dirmoog_c.specs.Exported.{told}
 
--- this paper's number for each case of a reading, and what is told of it:
+-- document 01's number for each case of a reading, and what is told of it:
 -- the counts of labels and gaps, or the place and 0
 abbrev pub readNumber : Reading → ℕ
 readNumber (read.Sheet counts) = 0
@@ -38,7 +38,7 @@ pub record ReadTold (text : List ℕ) (before : Lists) (out : List ℕ) (number 
 abbrev pub answerOf : ℕ → ℕ → Answer
 answerOf number place = cond (eqb number 0) Placed (refusal number place 0)
 
--- this paper's number for each case of a listing, and the count of bytes written
+-- document 01's number for each case of a listing, and the count of bytes written
 abbrev pub listedNumber : Listed → ℕ
 listedNumber (listed.Written bytes) = 0
 listedNumber (listed.Refused r) = r .number

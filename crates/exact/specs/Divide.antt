@@ -15,7 +15,7 @@ pub record GreatestCommonDivisor (a b g : ℕ) : Type 0 where
   pub right : g ∣ b
   pub greatest : (k : ℕ) → k ∣ a → k ∣ b → k ∣ g
 
--- a denominator above zero, a remainder by it, and the greatest common divisor of the two
+-- a denominator above zero, another number, and the greatest common divisor of the two
 pub record IsDivisor (d : Divisor) : Type 0 where
   pub above : pos 0 <ℤ d .den
   pub positive : pos 0 <ℤ d .common
@@ -33,7 +33,7 @@ orderZ x y = cond (ltZ x y) Below (cond (ltZ y x) Above Same)
 unfoldable pub orderOf : Fraction → Fraction → Order
 orderOf a b = orderZ (a .num *ℤ b .den) (b .num *ℤ a .den)
 
--- the fractions that the comparison and the rounding take: a denominator from 1, and both within their limits
+-- the fractions that the comparison takes: a denominator from 1, and both within their limits
 pub record InRange (q : Fraction) : Type 0 where
   pub above : pos 0 <ℤ q .den
   pub den-most : q .den ≤ℤ pos fractionDenMost

@@ -28,6 +28,10 @@ placeDenMost = 4800
 abbrev pub placeNumMost : ℕ
 placeNumMost = 5472000000
 
+-- "within 1,140,000 of zero": the largest want and the largest offset
+abbrev pub placeMost : ℕ
+placeMost = 1140000
+
 -- a fraction that is compared: its denominator, and its numerator either way
 abbrev pub fractionDenMost : ℕ
 fractionDenMost = 518400
@@ -58,6 +62,9 @@ offsetMost = 940000
 abbrev pub momentMost : ℕ
 momentMost = 266112000000
 
--- a multiplier over a block's weight
+-- what a label of a block hands on, and a multiplier over a block's weight: that of so many labels
+abbrev pub shareMost : ℕ
+shareMost = 4000000000000000
+
 abbrev pub multiplierMost : ℕ
 multiplierMost = 192000000000000000

@@ -9,6 +9,7 @@ use lib.Dec.{eqb}
 use lib.ListN.{length, getD, take}
 use lib.IntN.{natAbs}
 use Rattle.exact.specs.Fraction.{LowestTerms}
+use Rattle.ground.specs.Limits.{placeDenMost, placeMost}
 use Rattle.ground.specs.declared.Answer.{Answer}
 use Rattle.ground.specs.declared.Answer.the-variants.{Placed}
 use Rattle.ground.specs.declared.Label.{Label}
@@ -46,8 +47,8 @@ pub record Accepted (r : Read) (w after : Written) : Type 0 where
   pub places-lowest : (i : Label) → i .0 < labelCount r → LowestTerms (placeOf after i)
   pub multipliers-lowest : (e : GapNumber) → e .0 < gapCount r → LowestTerms (multiplierOf after e)
   -- "Every place is over a denominator of at most 4,800 and lies within 1,140,000 of zero"
-  pub den-most : (i : Label) → i .0 < labelCount r → natAbs (placeOf after i .den) ≤ 4800
-  pub near : (i : Label) → i .0 < labelCount r → natAbs (placeOf after i .num) ≤ 1140000 * natAbs (placeOf after i .den)
+  pub den-most : (i : Label) → i .0 < labelCount r → natAbs (placeOf after i .den) ≤ placeDenMost
+  pub near : (i : Label) → i .0 < labelCount r → natAbs (placeOf after i .num) ≤ placeMost * natAbs (placeOf after i .den)
 
 -- a gap number as a step that is passed forwards, as every gap of document 01 is
 abbrev pub forwards : ℕ → Step

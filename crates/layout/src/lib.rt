@@ -1,3 +1,3 @@
-// Lays out a sheet: what is refused, and what is answered.
+// Lays out a sheet, and lends the filled part of the ring buffer.
 pub mod lists;
 pub mod part;

@@ -29,7 +29,7 @@ abbrev pub Leads : Sheet → Label → List Step → Label → Type 0
 Leads s a [] b = a ≡ b
 Leads s a (t ∷ ts) b = (start s t ≡ a) × Leads s (finish s t) ts b
 
--- every step has a property; no step passes the gap; "each passed at most once"
+-- every step has a property
 abbrev pub Each : (Step → Type 0) → List Step → Type 0
 Each P [] = Unit {0}
 Each P (t ∷ ts) = P t × Each P ts

@@ -48,7 +48,7 @@ pub record Sound (z : Numbers) : Type 0 where
 
 -- ---- places and loads that balance under a push
 
--- what the force s on gap c brings to label i
+-- what the push s from label a to label b brings to label i
 abbrev pub push : (a b : ℕ) (s : ℤ) → ℕ → ℤ
 push a b s i = s *ℤ (ind (eqb b i) -ℤ ind (eqb a i))
 
@@ -58,14 +58,14 @@ pub record State (n m : ℕ) (u v : ℕ → ℕ) (w D G : ℕ → ℤ) (F : ℕ 
   pub tight : (e : ℕ) → e < m → F e ≡ true → X (v e) ≡ X (u e) +ℤ G e
   pub balance : (i : ℕ) → i < n → pos 2 *ℤ (w i *ℤ (X i -ℤ D i)) ≡ flow m u v Λ i +ℤ push a b s i
 
--- the cost of places, and by how much gap c does not hold
+-- the cost of places, and by how much label b should stand further right of label a
 abbrev pub costZ : (n : ℕ) (w D X : ℕ → ℤ) → ℤ
 costZ n w D X = sum n (λ i. w i *ℤ ((X i -ℤ D i) *ℤ (X i -ℤ D i)))
 
 abbrev pub viol : (a b : ℕ) (g : ℤ) (X : ℕ → ℤ) → ℤ
 viol a b g X = X a +ℤ g -ℤ X b
 
--- what never falls within an outer step: twice the cost, and the push times the violation
+-- what never falls within an outer step: twice the cost, and twice the push times the violation
 abbrev pub dual : (n : ℕ) (w D : ℕ → ℤ) (a b : ℕ) (g s : ℤ) (X : ℕ → ℤ) → ℤ
 dual n w D a b g s X = pos 2 *ℤ costZ n w D X +ℤ pos 2 *ℤ s *ℤ viol a b g X
 

@@ -1,4 +1,4 @@
--- The limits and the refusal table (document 01), in the order of its checks.
+-- The refusal table (document 01), in the order of its checks.
 -- What it decides is 1 to 8; 9 is tied to the absence of a placement in Promise.
 use Prim.Native.Nat.{ℕ, zero, suc}
 use mathlib.Core.Bool.{Bool, false, cond, not, _||_}

@@ -108,7 +108,7 @@ abbrev pub judged : Outcome → Lists → Done
 judged (bad-line n) b = refusedWith 10 n b
 judged (sheet t) b = settled t b
 
--- "at most 16,384 bytes"
+-- refusal 11: "above 16,384 bytes"
 abbrev pub textMost : ℕ
 textMost = 16384
 

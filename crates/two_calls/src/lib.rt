@@ -38,9 +38,10 @@ pub fn lay_out_both(
     ensures { λ r.
         let sheet = sheetLent wanted weight left right distance in
         let room = roomLent carried «place_num» «place_den» «mult_num» «mult_den» ring in
-        let second = recordsLent «second_wanted» «second_weight» gaps in
-        let other = roomLent «second_carried» «second_place_num» «second_place_den» «second_mult_num» «second_mult_den» «second_ring» in
-        ⌜ BothPromised sheet (room .entry) (r .first) (room .exit) second (other .entry) (r .second) (other .exit) ⌝ }
+        let secondSheet = recordsLent «second_wanted» «second_weight» gaps in
+        let secondRoom = roomLent «second_carried» «second_place_num» «second_place_den» «second_mult_num» «second_mult_den» «second_ring» in
+        ⌜ BothPromised sheet (room .entry) (r .first) (room .exit) secondSheet (secondRoom .entry) (r .second)
+        (secondRoom .exit) ⌝ }
 {
     let first = lay_out(
         wanted,

@@ -14,15 +14,15 @@ use Rattle.core_forest.specs.Problem.{Problem}
 use Rattle.core_breaking.specs.declared.Outcome.{Outcome}
 use Rattle.core_breaking.specs.declared.Outcome.the-variants.{Dropped, Reached, Ring}
 use Rattle.core_advance.specs.Advance.{Gives}
-use Rattle.core_balance.specs.Balance.{Remarked}
-use Rattle.core_balance.proofs.Remarking.{remarked-none, remarked-then, changed-remarked}
+use Rattle.core_balance.specs.Balance.{Remarked, Untouched}
+use Rattle.core_balance.proofs.Remarking.{remarked-none, remarked-then, changed-remarked, untouched-none, untouched-then, changed-untouched}
 use Rattle.core_settle.proofs.Raising.{Raising, ones, raising-start, raising-drop, raised-reached, raised-ring, ones-drop}
 use Rattle.core_settle.proofs.raise.raise.Statement.{statement}
 use Rattle.core_settle.proofs.raise.raise.Tie as tie
 
 abbrev Inv-loop : tie.InvT-loop
 Inv-loop labels gaps c a b h left right distance kind mark₀ wanted weight via₀ up₀ den₀ load₀ over₀ out-head out-next in-head in-next mark via up den load over =
-    Raising (record { labels = labels; gaps = gaps; left = left; right = right; distance = distance; kind = kind; wanted = wanted; weight = weight }) (a .0) (b .0) (toZ w64 h) mark₀ mark × Chained gaps left mark out-head out-next × Chained gaps right mark in-head in-next × Remarked left right mark₀ den₀ load₀ over₀ mark den load over
+    Raising (record { labels = labels; gaps = gaps; left = left; right = right; distance = distance; kind = kind; wanted = wanted; weight = weight }) (a .0) (b .0) (toZ w64 h) mark₀ mark × Chained gaps left mark out-head out-next × Chained gaps right mark in-head in-next × Remarked left right mark₀ den₀ load₀ over₀ mark den load over × Untouched gaps left right mark₀ den₀ load₀ over₀ mark den load over
 
 abbrev μ-loop : tie.MeasureT-loop
 μ-loop labels gaps c a b h left right distance kind mark₀ wanted weight via₀ up₀ den₀ load₀ over₀ out-head out-next in-head in-next mark via up den load over =
@@ -66,7 +66,7 @@ chain-requires c κs =
 loop-holds : tie.Need-loop-holds Inv-loop μ-loop
 loop-holds c =
     let s = c .before .before .before .before .before .before .before .before in
-    (raising-start (sheet s) (s .args .a .0) (s .args .b .0) (asked s) (s .args .mark .now) (c .before .before .before .before .before .before .measured-gap-bytes .ensures), c .chain .ensures .0, c .chain .ensures .1, remarked-none)
+    (raising-start (sheet s) (s .args .a .0) (s .args .b .0) (asked s) (s .args .mark .now) (c .before .before .before .before .before .before .measured-gap-bytes .ensures), c .chain .ensures .0, c .chain .ensures .1, remarked-none, untouched-none)
 
 advance-requires : tie.Need-advance-requires Inv-loop μ-loop
 advance-requires c κs = (c .before .before .before .before .before .before .before .before .before .before .before .before .before .before .before .before .pre .0, c .before .before .before .before .before .before .before .before .before .before .before .before .before .before .before .before .pre .2, c .before .before .before .before .before .before .before .before .before .before .before .before .before .before .before .before .pre .3, subst (λ (x : ℤ). natAbs x ≤ 20000) (sym (same-asked (c .before .before .before .before .before .before .before .before .before .before .before .before .before .before .before .before))) (c .before .before .before .before .before .before .before .before .before .before .before .before .before .before .before .before .pre .4), c .before .before .before .before .before .before .before .loop .inv .1, c .before .before .before .before .before .before .before .loop .inv .2)
@@ -103,7 +103,7 @@ loop-again c =
     let i = at-drop c .loop .inv in
     let ch = c .change-mark .ensures in
     let most = start-drop c .pre .0 .gaps-most in
-    (rw (ch .marks) (raising-drop most (i .0) (dropped (drops c))), rw (ch .marks) (chained-drop j (in-marks c) (i .1)), rw (ch .marks) (chained-drop j (in-marks c) (i .2)), remarked-then (i .3) (changed-remarked (omega (arith, dropped (drops c) .gap-in, most)) ch))
+    (rw (ch .marks) (raising-drop most (i .0) (dropped (drops c))), rw (ch .marks) (chained-drop j (in-marks c) (i .1)), rw (ch .marks) (chained-drop j (in-marks c) (i .2)), remarked-then (i .3) (changed-remarked (omega (arith, dropped (drops c) .gap-in, most)) ch), untouched-then (i .4) (changed-untouched (dropped (drops c) .gap-in) ch))
 
 enum-told : tie.Need-enum-told Inv-loop μ-loop
 enum-told c = search needs
@@ -120,7 +120,7 @@ returns c =
     let s = c .before .before .before .before .before .before .before .before .before .before .before .before .before .before .before .before .before .before .before .before .before .before .before .before in
     let i = c .before .before .before .before .before .before .before .before .before .before .before .before .before .before .before .loop .inv in
     let ch = c .change-mark2 .ensures in
-    (rw (ch .marks) (raised-reached (s .args .c .0) (same-asked s) (s .pre .0) (s .pre .1) (i .0) (reached (c .before .before .before .before .before))), remarked-then (i .3) (changed-remarked (omega (arith, s .pre .1, s .pre .0 .gaps-most)) ch))
+    (rw (ch .marks) (raised-reached (s .args .c .0) (same-asked s) (s .pre .0) (s .pre .1) (i .0) (reached (c .before .before .before .before .before))), remarked-then (i .3) (changed-remarked (omega (arith, s .pre .1, s .pre .0 .gaps-most)) ch), untouched-then (i .4) (changed-untouched (s .pre .1) ch))
 
 enum-told-2 : tie.Need-enum-told-2 Inv-loop μ-loop
 enum-told-2 c = search needs
@@ -129,7 +129,7 @@ returns-2 : tie.Need-returns-2 Inv-loop μ-loop
 returns-2 c =
     let s = c .before .before .before .before .before .before .before .before .before .before .before .before .before .before .before .before .before .before .before in
     let i = c .before .before .before .before .before .before .before .before .before .before .loop .inv in
-    (raised-ring (s .args .c .0) (same-asked s) (i .0) (ring c), i .3)
+    (raised-ring (s .args .c .0) (same-asked s) (i .0) (ring c), i .3, i .4)
 
 pub raise-spec : {M : Type 1} → statement M
 raise-spec =

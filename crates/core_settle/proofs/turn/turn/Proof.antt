@@ -9,6 +9,8 @@ use Rattle.core_worst_gap.specs.WorstGap.{Lacks}
 use Rattle.core_standing.specs.Standing.{Standing}
 use Rattle.core_settle.proofs.Turning.{Pushing, one-lacks, pushing, read-back, turn-waits, turn-again, turn-climbs, turn-ring}
 use Rattle.core_standing.proofs.Standing.{comparable, none-lacks}
+use Rattle.ground.proofs.Copying.{filled-start}
+use Rattle.core_settle.proofs.Outlying.{outlying-none, outlying-then, outlying-raised, outlying-balanced, given-up}
 use Rattle.core_settle.proofs.turn.turn.Statement.{statement}
 use Rattle.core_settle.proofs.turn.turn.Tie as tie
 
@@ -47,7 +49,7 @@ enum-told c = search needs
 returns : tie.Need-returns
 returns c =
     let s = c .before .before .before .before .before in
-    (stands s, none-lacks (s .args .left .now) (s .args .right .now) (s .args .distance .now) (s .args .kind .now) (s .args .num .now) (s .args .den .now) (s .args .gaps) (c .enum-told .given .1) (c .before .before .worst-gap .ensures))
+    ((stands s, none-lacks (s .args .left .now) (s .args .right .now) (s .args .distance .now) (s .args .kind .now) (s .args .num .now) (s .args .den .now) (s .args .gaps) (c .enum-told .given .1) (c .before .before .worst-gap .ensures)), outlying-none, filled-start 0 _, filled-start 0 _)
 
 abbrev LacksAt : tie.After-known-told → Type 0
 LacksAt c =
@@ -104,8 +106,12 @@ rebalance-requires c κs =
 returns-2 : tie.Need-returns-2
 returns-2 c =
     let i = c .before .before .before .before .before .before .before .before in
-    let o = push (i .before) in
-    turn-again (limits (start o)) (stands (start o)) (c .rebalance .last .1 .1 .1 .1 .1 .1 .1 .1 .1 .1 .0) (c .rebalance .last .1 .1 .1 .1 .1 .1 .1 .1 .1 .1 .1 .0) (c .rebalance .last .1 .1 .1 .1 .1 .1 .1 .1 .1 .1 .1 .1 .0) (c .rebalance .last .1 .1 .1 .1 .1 .1 .1 .1 .1 .1 .1 .1 .1 .0) (pushing-at o) (i .if1 .taken) (i .before .raise .ensures .0) (c .rebalance .ensures .0)
+    let o = push (i .before) in (
+      turn-again (limits (start o)) (stands (start o)) (c .rebalance .last .1 .1 .1 .1 .1 .1 .1 .1 .1 .1 .0) (c .rebalance .last .1 .1 .1 .1 .1 .1 .1 .1 .1 .1 .1 .0) (c .rebalance .last .1 .1 .1 .1 .1 .1 .1 .1 .1 .1 .1 .1 .0) (c .rebalance .last .1 .1 .1 .1 .1 .1 .1 .1 .1 .1 .1 .1 .1 .0) (pushing-at o) (i .if1 .taken) (i .before .raise .ensures .0) (c .rebalance .ensures .0),
+      outlying-then (outlying-raised (limits (start o)) (i .before .raise .ensures .2)) (outlying-balanced (c .rebalance .ensures .2)),
+      filled-start 0 _,
+      filled-start 0 _,
+    )
 
 -- ---- nothing gives way
 
@@ -119,7 +125,12 @@ returns-3 : tie.Need-returns-3
 returns-3 c =
     let i = c .before .before .before .before .before in
     let o = push (i .before) in
-    turn-ring (limits (start o)) (stands (start o)) (pushing-at o) (i .if1 .left) (i .before .raise .ensures .0) (c .way .ensures)
+    let r = i .before .raise .ensures in (
+      (turn-ring (limits (start o)) (stands (start o)) (pushing-at o) (i .if1 .left) (r .0) (c .way .ensures .0), given-up (stands (start o)) (r .1)),
+      outlying-raised (limits (start o)) (r .2),
+      c .way .ensures .1,
+      c .way .ensures .2,
+    )
 
 pub turn-spec : {M : Type 1} → statement M
 turn-spec =
