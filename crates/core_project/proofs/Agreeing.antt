@@ -23,15 +23,15 @@ use Rattle.ground.specs.declared.GapNumber.{GapNumber}
 use Rattle.least_move.specs.Sheet.{Sheet, Gap, label, gapNumber}
 use Rattle.least_move.specs.Placement.{Placement, Holds, Tight}
 use Rattle.least_move.specs.Multipliers.{Multipliers, Conditions, Lawful, counted, asRight, asLeft}
-use Rattle.least_move.specs.Marks.{Step, start, finish, Leads, Each, Marks, MarkedRing}
-use Rattle.least_move.proofs.Forest.{each-map}
+use Rattle.least_move.specs.Marks.{Step, start, finish, Leads, Marks, MarkedRing}
 use Rattle.least_move.specs.Ring.{Ring, Passable, distanceOf, lengthOf, OnceLeft}
-use Rattle.ground.specs.Entries.{nat, int}
+use Rattle.ground.specs.Entries.{nat, int, Each}
 use Rattle.core_forest.specs.Problem.{Problem, Limits, kindOf, sheetFrom}
 use Rattle.core_ring.specs.Way.{stepsOf, IsRing}
 use Rattle.core_settle.specs.Settle.{RingStands}
 use Rattle.core_project.specs.Core.{CorePlaced}
 use Rattle.core_project.specs.Project.{Copied, FrontWritten, FractionsWritten, Buffers, Ready, Solved, RingGiven, problemOf}
+use Rattle.ground.proofs.Each.{each-map}
 
 -- ---- plain facts
 

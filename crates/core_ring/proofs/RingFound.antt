@@ -13,17 +13,17 @@ use borrow.Author.Tests.{ltb-true, lt-ltb, eqb-true, eqb-false, eq-eqb, ne-eqb}
 use Rattle.algebra.proofs.Whole.{*ℤ-lt-cancel}
 use Rattle.algebra.proofs.Ring.{ring, quotes}
 use Rattle.least_move.specs.Sheet.{Sheet, Kind, at-least, exactly, ignored, label}
-use Rattle.least_move.specs.Marks.{Step, start, finish, Leads, Each}
+use Rattle.least_move.specs.Marks.{Step, start, finish, Leads}
 use Rattle.least_move.specs.Ring.{Ring, Passable, distanceOf, lengthOf, OnceLeft}
 use Rattle.least_move.specs.Bench.{RingOf, forwards}
 use Rattle.least_move.specs.States.{viol, Numbers, Pushed, Pushes}
-use Rattle.least_move.proofs.Forest.{each-map}
 use Rattle.core_forest.specs.Tree.{Linked}
-use Rattle.ground.specs.Entries.{nat, int}
+use Rattle.ground.specs.Entries.{nat, int, Each}
 use Rattle.core_forest.specs.Problem.{Problem, Limits, kindOf, graphOf, marksOf, numbersOf, sheetFrom}
 use Rattle.core_advance.specs.Advance.{Blocked}
 use Rattle.core_ring.specs.Way.{Climbable, WayWritten, wayFrom, gapAbove, backAt, stepOf, stepsOf, IsRing}
 use Rattle.core_ring.proofs.Climb.{way-more, way-done}
+use Rattle.ground.proofs.Each.{each-map}
 
 -- ---- plain facts
 

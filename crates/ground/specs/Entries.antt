@@ -1,7 +1,7 @@
--- Entries of lists, and lists whose front was written.
+-- Entries of lists, what holds of each, and lists whose front was written.
 use Prim.Native.Nat.{ℕ}
 use mathlib.Core.Path.{_≡_}
-use mathlib.Core.List.{List, _++_}
+use mathlib.Core.List.{List, [], _∷_, _++_}
 use lib.ListN.{length, getD, take, drop}
 use lib.IntN.{ℤ, pos}
 use Rattle.ground.specs.declared.GapRecord.{GapRecord}
@@ -12,6 +12,11 @@ nat xs i = getD xs i 0
 
 abbrev pub int : List ℤ → ℕ → ℤ
 int xs i = getD xs i (pos 0)
+
+-- every entry has a property
+abbrev pub Each : {A : Type 0} → (A → Type 0) → List A → Type 0
+Each P [] = Unit {0}
+Each P (x ∷ xs) = P x × Each P xs
 
 -- no gap: what stands past the end of a list of records
 abbrev pub noRecord : GapRecord

@@ -16,10 +16,10 @@ use Rattle.algebra.proofs.Whole.{parts-le}
 use Rattle.least_move.specs.Sheet.{Proper, gapNumber, label}
 use Rattle.least_move.specs.Placement.{Placement, Feasible}
 use Rattle.least_move.specs.Multipliers.{Conditions}
-use Rattle.least_move.specs.Marks.{Step, Each}
+use Rattle.least_move.specs.Marks.{Step}
 use Rattle.least_move.specs.Ring.{Ring, Passable}
 use Rattle.least_move.proofs.Laws.{least-of-conditions, ring-excludes}
-use Rattle.ground.specs.Entries.{nat, int}
+use Rattle.ground.specs.Entries.{nat, int, Each}
 use Rattle.core_forest.specs.Problem.{Problem, Limits, kindOf, sheetFrom}
 use Rattle.core_ring.specs.Way.{stepsOf, IsRing}
 use Rattle.core_project.specs.Project.{Buffers, Ready, Solved, problemOf}

@@ -21,10 +21,11 @@ use Rattle.ground.specs.declared.GapNumber.{GapNumber}
 use Rattle.least_move.specs.Sheet.{Sheet, Kind, at-least, exactly, ignored, Proper, label, gapNumber}
 use Rattle.least_move.specs.Placement.{Placement, Asks, Feasible, reach}
 use Rattle.least_move.specs.Multipliers.{Multipliers, Lawful, Conditions}
-use Rattle.least_move.specs.Marks.{Step, start, finish, Leads, Each}
+use Rattle.least_move.specs.Marks.{Step, start, finish, Leads}
 use Rattle.least_move.specs.Ring.{Ring, Passable, OnceLeft}
 use Rattle.least_move.specs.Bench.{WrittenGap, Placed, Refused, Moved, Case, placed, refused, moved, bench, gapOf, written, sheetOf, placement, multipliers, forwards, RingOf, RightPlaced, RightRefused, RightMoved, RightCase}
 use Rattle.least_move.proofs.Laws.{least-of-conditions, ring-excludes}
+use Rattle.ground.specs.Entries.{Each}
 
 -- ---- tests that come with their proofs
 

@@ -18,11 +18,12 @@ use Rattle.ground.specs.declared.Label.{Label}
 use Rattle.least_move.specs.Sheet.{Sheet, Kind, at-least, exactly, ignored, Proper, label, gapNumber}
 use Rattle.least_move.specs.Placement.{Placement, Feasible, LeastMove, cost}
 use Rattle.least_move.specs.Multipliers.{Multipliers, Conditions}
-use Rattle.least_move.specs.Marks.{Step, start, finish, Leads, Each}
+use Rattle.least_move.specs.Marks.{Step, start, finish, Leads}
 use Rattle.least_move.specs.Ring.{Passable, distanceOf, lengthOf, Ring}
 use Rattle.least_move.specs.Moved.{SameButWants, Within}
 use Rattle.least_move.proofs.Scaled.{Meets-at, cost-least, cost-unique, moved-bound, moved-down, moved-squares}
 use Rattle.least_move.proofs.Bridge.{weights, wants, Conditions-at, Meets-all, Places-at, Multipliers-at, cost-scale, cost-fraction, feasible-at, conditions-at, proper-same, same-at}
+use Rattle.ground.specs.Entries.{Each}
 
 -- ---- least and unique
 

@@ -11,6 +11,7 @@ use Rattle.ground.specs.declared.GapNumber.{GapNumber}
 use Rattle.least_move.specs.Sheet.{Sheet}
 use Rattle.least_move.specs.Placement.{Placement, Tight}
 use Rattle.least_move.specs.Multipliers.{Multipliers}
+use Rattle.ground.specs.Entries.{Each}
 
 -- a gap passed on a walk, from its left label to its right, or backwards
 pub record Step : Type 0 where
@@ -29,11 +30,7 @@ abbrev pub Leads : Sheet → Label → List Step → Label → Type 0
 Leads s a [] b = a ≡ b
 Leads s a (t ∷ ts) b = (start s t ≡ a) × Leads s (finish s t) ts b
 
--- every step has a property
-abbrev pub Each : (Step → Type 0) → List Step → Type 0
-Each P [] = Unit {0}
-Each P (t ∷ ts) = P t × Each P ts
-
+-- "each passed at most once"
 abbrev pub Once : List Step → Type 0
 Once [] = Unit {0}
 Once (t ∷ ts) = Each (λ r. r .by ≢ t .by) ts × Once ts

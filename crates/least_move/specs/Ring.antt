@@ -7,7 +7,8 @@ use mathlib.Core.List.{List, [], _∷_}
 use lib.IntN.{ℤ, pos, negℤ, _+ℤ_}
 use lib.Signed.{_<ℤ_}
 use Rattle.least_move.specs.Sheet.{Sheet, Kind, at-least, exactly, ignored}
-use Rattle.least_move.specs.Marks.{Step, start, finish, Leads, Each}
+use Rattle.least_move.specs.Marks.{Step, start, finish, Leads}
+use Rattle.ground.specs.Entries.{Each}
 
 -- which way a gap may be passed: forwards; an exact gap either way; an ignored one not at all
 abbrev pub Passable : Kind → Bool → Type 0

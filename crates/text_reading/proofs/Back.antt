@@ -12,7 +12,7 @@ use lib.IntN.{ℤ, pos, negsuc, natAbs}
 use lib.Signed.{_≤ℤ_}
 use borrow.Author.Tests.{le-ltb}
 use Rattle.ground.specs.declared.GapRecord.{GapRecord}
-use Rattle.ground.specs.Entries.{noRecord}
+use Rattle.ground.specs.Entries.{noRecord, Each}
 use Rattle.ground.specs.Limits.{gapsMost, labelsMost, weightLeast, weightMost}
 use Rattle.text_rows.specs.declared.LabelRow.{LabelRow}
 use Rattle.text_reading.specs.declared.Reading.the-variants.{Sheet}
@@ -20,7 +20,7 @@ use Rattle.text_rows.specs.Lines.{lines}
 use Rattle.text_rows.specs.Numeral.{digitsMost}
 use Rattle.text_reading.specs.Texts.{textMost, Typed, nothingTyped, sheet, readFrom, outcome, Lists, filled, roomFor, countsOf, reading}
 use Rattle.text_reading.specs.Printed.{labelRecord, gapRecord, labelRecords, gapRecords, printed, noLabel, InLimits}
-use Rattle.text_reading.proofs.Numerals.{Each, each-at}
+use Rattle.text_reading.proofs.Numerals.{each-at}
 use Rattle.text_reading.proofs.Records.{LabelFits, GapFits, lines-label, lines-gap, taken-label, taken-gap, label-most, gap-most}
 
 -- ---- rows read from their records

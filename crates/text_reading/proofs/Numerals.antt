@@ -13,12 +13,10 @@ use borrow.Author.Tests.{ltb-true, le-leb, ne-eqb}
 use Rattle.text_rows.specs.Numeral.{digitZero, digitNine, minus, allDigits, valueOf, digitsMost, number, optionMap, signed, weightOf, digitsOf, decimalMost, decimal, signedDecimal}
 use Rattle.text_rows.proofs.DigitLaws.{value-append}
 use Rattle.text_rows.proofs.Decimal.{length-decimal}
+use Rattle.ground.proofs.Each.{each-map}
+use Rattle.ground.specs.Entries.{Each}
 
 -- ---- a property of every entry of a list
-
-abbrev pub Each : {A : Type 0} → (A → Type 0) → List A → Type 0
-Each P [] = Unit {0}
-Each P (x ∷ xs) = P x × Each P xs
 
 pub each-at :
     {A : Type 0} (P : A → Type 0) (d : A) (xs : List A) → ((k : ℕ) → k < length xs → P (getD xs k d)) → Each P xs
@@ -28,10 +26,6 @@ each-at P d (x ∷ xs) h = (h 0 (omega arith), each-at P d xs (λ k l. h (suc k)
 pub each-append : (P : ℕ → Type 0) (xs ys : List ℕ) → Each P xs → Each P ys → Each P (xs ++ ys)
 each-append P [] ys h k = k
 each-append P (x ∷ xs) ys h k = (h .0, each-append P xs ys (h .1) k)
-
-pub each-map : (P Q : ℕ → Type 0) → ((b : ℕ) → P b → Q b) → (xs : List ℕ) → Each P xs → Each Q xs
-each-map P Q f [] h = tt
-each-map P Q f (x ∷ xs) h = (f x (h .0), each-map P Q f xs (h .1))
 
 abbrev pub Digit : ℕ → Type 0
 Digit b = (digitZero ≤ b) × (b ≤ digitNine)
@@ -120,6 +114,6 @@ abbrev pub NumeralByte : ℕ → Type 0
 NumeralByte b = (minus ≤ b) × (b ≤ digitNine)
 
 pub signed-bytes : (z : ℤ) → Each NumeralByte (signedDecimal z)
-signed-bytes (pos n) = each-map Digit NumeralByte (λ b h. omega arith) (decimal n) (digits-only decimalMost n)
+signed-bytes (pos n) = each-map {P = Digit} {Q = NumeralByte} (λ b h. omega arith) (decimal n) (digits-only decimalMost n)
 signed-bytes (negsuc n) =
-    (omega arith, each-map Digit NumeralByte (λ b h. omega arith) (decimal (suc n)) (digits-only decimalMost (suc n)))
+    (omega arith, each-map {P = Digit} {Q = NumeralByte} (λ b h. omega arith) (decimal (suc n)) (digits-only decimalMost (suc n)))

@@ -17,7 +17,9 @@ use Rattle.text_rows.specs.Numeral.{digitsMost, decimal, signedDecimal}
 use Rattle.text_rows.specs.Taking.{same, labelWord, gapWord, rowOf, taken}
 use Rattle.text_reading.specs.Printed.{labelRecord, gapRecord}
 use Rattle.text_rows.proofs.Decimal.{length-signed}
-use Rattle.text_reading.proofs.Numerals.{Each, each-append, each-map, Digit, digits-only, NumeralByte, signed-bytes, number-back, signed-back, weight-back}
+use Rattle.text_reading.proofs.Numerals.{each-append, Digit, digits-only, NumeralByte, signed-bytes, number-back, signed-back, weight-back}
+use Rattle.ground.proofs.Each.{each-map}
+use Rattle.ground.specs.Entries.{Each}
 
 -- ---- bytes that end neither a field nor a line
 
@@ -31,17 +33,17 @@ abbrev pub Plain : ℕ → Type 0
 Plain b = NoComma b × NoEnd b
 
 no-comma : (f : List ℕ) → Each Plain f → Each NoComma f
-no-comma f h = each-map Plain NoComma (λ b p. p .0) f h
+no-comma f h = each-map {P = Plain} {Q = NoComma} (λ b p. p .0) f h
 
 no-end : (f : List ℕ) → Each Plain f → Each NoEnd f
-no-end f h = each-map Plain NoEnd (λ b p. p .1) f h
+no-end f h = each-map {P = Plain} {Q = NoEnd} (λ b p. p .1) f h
 
 -- digits and minus signs are such bytes
 pub decimal-plain : (n : ℕ) → Each Plain (decimal n)
-decimal-plain n = each-map Digit Plain (λ b h. omega arith) (decimal n) (digits-only 20 n)
+decimal-plain n = each-map {P = Digit} {Q = Plain} (λ b h. omega arith) (decimal n) (digits-only 20 n)
 
 pub signed-plain : (z : ℤ) → Each Plain (signedDecimal z)
-signed-plain z = each-map NumeralByte Plain (λ b h. omega arith) (signedDecimal z) (signed-bytes z)
+signed-plain z = each-map {P = NumeralByte} {Q = Plain} (λ b h. omega arith) (signedDecimal z) (signed-bytes z)
 
 -- ---- fields and lines
 
