@@ -85,7 +85,9 @@ pub record Solved (p : Problem) (b after : Buffers) : Type 0 where
   pub multipliers-lowest : (e : GapNumber) → e .0 < p .gaps → LowestTerms (multiplierIn after e)
   -- every place is over at most 48 times the largest weight, and within the largest want and 940,000 of zero
   pub den-most : (i : ℕ) → i < p .labels → (B : ℕ) → ((j : ℕ) → j < p .labels → natAbs (int (p .weight) j) ≤ B) → natAbs (int (after .place-den) i) ≤ labelsMost * B
-  pub num-most : (i : ℕ) → i < p .labels → (B : ℕ) → ((j : ℕ) → j < p .labels → natAbs (int (p .wanted) j) ≤ B) → natAbs (int (after .place-num) i) ≤ (B + offsetMost) * natAbs (int (after .place-den) i)
+  pub num-most :
+      (i : ℕ) → i < p .labels → (B : ℕ) → ((j : ℕ) → j < p .labels → natAbs (int (p .wanted) j) ≤ B) →
+      natAbs (int (after .place-num) i) ≤ (B + offsetMost) * natAbs (int (after .place-den) i)
 
 pub record RingGiven (p : Problem) (b after : Buffers) (size : ℕ) : Type 0 where
   pub some : 0 < size
