@@ -8,7 +8,7 @@ use native.Mathlib.Omega.{arith}
 use lib.IntN.{ℤ, pos, negsuc, _+ℤ_, _-ℤ_, _*ℤ_, zero-*ℤ}
 use lib.Signed.{_≤ℤ_, _<ℤ_, leZ}
 use lib.Dec.{eqb, ltb}
-use borrow.Author.Tests.{eqb-true, eq-eqb, ltb-true, lt-ltb}
+use borrow.Author.Tests.{eqb-true, eq-eqb, ltb-true, ltb-false, lt-ltb}
 use Rattle.exact.specs.declared.Order.{Order}
 use Rattle.exact.specs.declared.Order.the-variants.{Below, Same, Above}
 use Rattle.exact.specs.Divide.{orderOf}
@@ -31,7 +31,7 @@ use Rattle.core_breaking.specs.declared.Side.{Side}
 use Rattle.core_breaking.specs.Breaking.{over, nearerOf, candidateOf}
 use Rattle.core_breaking.specs.Decide.{meetingOf, beforeTight, againstTight, decided, withinBlock}
 use Rattle.core_forest.specs.Problem.{Problem, Limits, kindOf, marksOf, numbersOf, IsForest}
-use Rattle.core_advance.specs.Side.{SideFound}
+use Rattle.core_advance.specs.Side.{RestStays, SideFound}
 use Rattle.core_advance.specs.Advance.{GapDropped, GapReached, Blocked, Gives, SearchedFrom}
 use Rattle.core_breaking.proofs.BreakingPoints.{NoLater, Above0, Each, no-later-trans, nearer-one, nearer-first, nearer-second, nearer-none, nearer-above0, cross, here-above0, breaks-at, Least, least-at, least-above0, least-no-later, least-none}
 use Rattle.core_elimination.proofs.SearchedBlock.{limits-graph, of-block, as-root, block-eliminates}
@@ -103,8 +103,11 @@ module _ {p : Problem} {mark : List ℕ} {root other : ℕ} {sign : ℤ} {r : Si
   before-all x h n k s l =
       no-later-trans x (r .first) (breaks k) h first-above (breaks-above k s l) n (rw (f .first) (least-no-later (r .count) breaks breaks-above k s l))
 
-  pub searched-from : SearchedFrom p mark root via up
-  searched-from = record { count = r .count; at = at; queue = queue; off = off; tree = f .tree }
+  abbrev pub searched-from : {via₀ up₀ : List ℕ} → RestStays root at via₀ up₀ via up → SearchedFrom p mark root via₀ up₀ via up
+  searched-from rest = record { count = r .count; at = at; queue = queue; off = off; tree = f .tree; rest = rest }
+
+  pub stands-apart : r .joined ≡ false → nat at other ≡ 0
+  stands-apart is = omega (arith, ltb-false 0 (nat at other) (sym (f .joined) ∙ is))
 
 -- ---- the two ends stand in one block
 

@@ -12,6 +12,7 @@ use Rattle.ground.specs.Entries.{nat}
 use Rattle.core_breaking.specs.declared.Outcome.{Outcome}
 use Rattle.core_breaking.specs.declared.Outcome.the-variants.{Dropped, Reached as reached, Ring}
 use Rattle.core_forest.specs.Problem.{Problem, graphOf, marksOf, numbersOf, IsForest}
+use Rattle.core_advance.specs.Side.{RestStays}
 
 -- the state of a push of a on b, in the numbers of the problem
 abbrev pub PushedBy : Problem → (ℕ → Bool) → ℕ → ℕ → ℤ → (num den : ℕ → ℤ) → Type 0
@@ -61,14 +62,24 @@ Gives p mark a b h (Dropped e) via up = GapDropped p mark a b h (e .0)
 Gives p mark a b h reached via up = GapReached p mark a b h
 Gives p mark a b h Ring via up = BlockedBy p mark a b via up
 
--- via and up are left by a search of the block of the root
-pub record SearchedFrom (p : Problem) (mark : List ℕ) (root : ℕ) (via up : List ℕ) : Type 0 where
+-- via and up after a search of the block of the root
+pub record SearchedFrom (p : Problem) (mark : List ℕ) (root : ℕ) (via₀ up₀ via up : List ℕ) : Type 0 where
   pub count : ℕ
   pub at : List ℕ
   pub queue : List ℕ
   pub off : List ℤ
   pub tree : Tree (graphOf p mark) root count at queue via up off
+  pub rest : RestStays root at via₀ up₀ via up
 
--- whatever gives way, via and up hold a searched block: that of a, or that of b
-abbrev pub LastSearched : Problem → List ℕ → ℕ → ℕ → (via up : List ℕ) → Type 0
-LastSearched p mark a b via up = SearchedFrom p mark a via up ⊎ SearchedFrom p mark b via up
+-- after a search of the block of a, in which b does not stand, and then of that of b
+pub record BothSearched (p : Problem) (mark : List ℕ) (a b : ℕ) (via₀ up₀ via up : List ℕ) : Type 0 where
+  pub via₁ : List ℕ
+  pub up₁ : List ℕ
+  pub one : SearchedFrom p mark a via₀ up₀ via₁ up₁
+  pub apart : nat (one .at) b ≡ 0
+  pub two : SearchedFrom p mark b via₁ up₁ via up
+
+-- whatever gives way, via and up are left by a search from a, or by one from a and then one from b, which stands in
+-- another block
+abbrev pub Searched : Problem → List ℕ → ℕ → ℕ → (via₀ up₀ via up : List ℕ) → Type 0
+Searched p mark a b via₀ up₀ via up = SearchedFrom p mark a via₀ up₀ via up ⊎ BothSearched p mark a b via₀ up₀ via up

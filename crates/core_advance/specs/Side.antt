@@ -38,11 +38,19 @@ pub record SideFound (p : Problem) (mark : List ℕ) (root other : ℕ) (sign : 
   pub share-is : share ≡ eliminated (r .count) queue up share₁
   pub first : r .first ≡ leastBreak (r .count) (candidateOf sign queue via (p .left) (p .right) (p .kind) held share)
 
+-- what a search leaves in via and up besides the tree: the root is its own label above, and entries outside of the
+-- block stay
+pub record RestStays (root : ℕ) (at via₀ up₀ via up : List ℕ) : Type 0 where
+  pub top : nat up root ≡ root
+  pub root-via : nat via root ≡ nat via₀ root
+  pub unseen : (x : ℕ) → nat at x ≡ 0 → (nat via x ≡ nat via₀ x) × (nat up x ≡ nat up₀ x)
+
 -- the same over the two lists that outlast the call; the others are scratch
-pub record SideSays (p : Problem) (mark : List ℕ) (root other : ℕ) (sign : ℤ) (r : Side) (via up : List ℕ) : Type 0 where
+pub record SideSays (p : Problem) (mark : List ℕ) (root other : ℕ) (sign : ℤ) (r : Side) (via₀ up₀ via up : List ℕ) : Type 0 where
   pub at : List ℕ
   pub queue : List ℕ
   pub off : List ℤ
   pub held : List ℤ
   pub share : List ℤ
   pub found : SideFound p mark root other sign r at queue via up off held share
+  pub rest : RestStays root at via₀ up₀ via up

@@ -14,12 +14,12 @@ ghost use Prim.Native.Nat.{_<_, _≤_};
 ghost use lib.IntN.{natAbs};
 ghost use Rattle.core_forest.specs.Chain.{Chained};
 ghost use Rattle.core_forest.specs.Problem.{Limits, problemLent, problemNow};
-ghost use Rattle.core_advance.specs.Advance.{Gives, LastSearched};
+ghost use Rattle.core_advance.specs.Advance.{Gives, Searched};
 ghost use Rattle.ground.specs.Limits.{distanceMost};
 ghost use Rattle.ground.specs.Views.{after, before};
 
 // Finds what gives way first, along chains of the marked gaps. Nothing is marked or dropped here.
-// A ring can be read out of via and up; else they hold the block of a or that of b.
+// A ring can be read out of via and up; else they are what the searches of the two blocks left.
 pub fn advance(
     labels: usize,
     gaps: usize,
@@ -50,7 +50,7 @@ pub fn advance(
     ensures { λ r.
         let p = problemLent labels gaps left right distance kind wanted weight in
         ⌜ Gives p (before mark) (a .0) (b .0) h r (after via) (after up)
-        × LastSearched p (before mark) (a .0) (b .0) (after via) (after up) ⌝ }
+        × Searched p (before mark) (a .0) (b .0) (before via) (before up) (after via) (after up) ⌝ }
 {
     let one = side(
         labels,

@@ -83,7 +83,7 @@ pub(crate) fn side(
         × Chained gaps (now right) (now mark) (now «in_head») (now «in_next») ⌝ }
     ensures { λ r.
         let p = problemLent labels gaps left right distance kind wanted weight in
-        ⌜ SideSays p (before mark) (root .0) (other .0) sign r (after via) (after up) ⌝ }
+        ⌜ SideSays p (before mark) (root .0) (other .0) sign r (before via) (before up) (after via) (after up) ⌝ }
 {
     let mut at = [0usize; LABELS];
     let mut queue = [0usize; LABELS];

@@ -10,7 +10,7 @@ use borrow.Author.Needs.{needs}
 use Rattle.core_forest.specs.Problem.{Problem, Limits, problemNow}
 use Rattle.core_advance.specs.Side.{SideSays}
 use Rattle.core_advance.proofs.EndBlock.{sums-range, first-in-range}
-use Rattle.core_advance.proofs.AdvanceLaws.{within-gives, decide-gives, searched-from}
+use Rattle.core_advance.proofs.AdvanceLaws.{within-gives, decide-gives, searched-from, stands-apart}
 use Rattle.core_advance.proofs.advance.advance.Statement.{statement}
 use Rattle.core_advance.proofs.advance.advance.Tie as tie
 
@@ -25,10 +25,10 @@ limits s = s .pre .0
 reach-read : (s : tie.Start) → toZ w64 (ofZ w64 (s .args .h)) ≡ s .args .h
 reach-read s = toZ-ofZ w64 (s .args .h) (s .fits .h)
 
-one-found : (c : tie.After-side) → SideSays (problem (c .before .before .before)) (now (c .before .before .before .args .mark)) (c .before .before .before .args .a .0) (c .before .before .before .args .b .0) (pos 1) (c .side .result) (c .side .last .1 .1 .1 .1 .1 .1 .1 .1 .1 .1 .1 .1 .1 .1 .1 .1 .0) (c .side .last .1 .1 .1 .1 .1 .1 .1 .1 .1 .1 .1 .1 .1 .1 .1 .1 .1 .0)
+one-found : (c : tie.After-side) → SideSays (problem (c .before .before .before)) (now (c .before .before .before .args .mark)) (c .before .before .before .args .a .0) (c .before .before .before .args .b .0) (pos 1) (c .side .result) (c .before .before .before .args .via .now) (c .before .before .before .args .up .now) (c .side .last .1 .1 .1 .1 .1 .1 .1 .1 .1 .1 .1 .1 .1 .1 .1 .1 .0) (c .side .last .1 .1 .1 .1 .1 .1 .1 .1 .1 .1 .1 .1 .1 .1 .1 .1 .1 .0)
 one-found c = c .side .ensures
 
-two-found : (c : tie.After-side2) → SideSays (problem (c .before .before .before .before .before .before .before)) (now (c .before .before .before .before .before .before .before .args .mark)) (c .before .before .before .before .before .before .before .args .b .0) (c .before .before .before .before .before .before .before .args .a .0) (negsuc 0) (c .side2 .result) (c .side2 .last .1 .1 .1 .1 .1 .1 .1 .1 .1 .1 .1 .1 .1 .1 .1 .1 .0) (c .side2 .last .1 .1 .1 .1 .1 .1 .1 .1 .1 .1 .1 .1 .1 .1 .1 .1 .1 .0)
+two-found : (c : tie.After-side2) → SideSays (problem (c .before .before .before .before .before .before .before)) (now (c .before .before .before .before .before .before .before .args .mark)) (c .before .before .before .before .before .before .before .args .b .0) (c .before .before .before .before .before .before .before .args .a .0) (negsuc 0) (c .side2 .result) (c .before .before .before .before .side .last .1 .1 .1 .1 .1 .1 .1 .1 .1 .1 .1 .1 .1 .1 .1 .1 .0) (c .before .before .before .before .side .last .1 .1 .1 .1 .1 .1 .1 .1 .1 .1 .1 .1 .1 .1 .1 .1 .1 .0) (c .side2 .last .1 .1 .1 .1 .1 .1 .1 .1 .1 .1 .1 .1 .1 .1 .1 .1 .0) (c .side2 .last .1 .1 .1 .1 .1 .1 .1 .1 .1 .1 .1 .1 .1 .1 .1 .1 .1 .0)
 two-found c = c .side2 .ensures
 
 side-requires : tie.Need-side-requires
@@ -41,7 +41,7 @@ returns : tie.Need-returns
 returns c =
     let s = c .before .before .before .before .before in
     let one = one-found (c .before .before) .found in
-    (rw (c .within .ensures) (within-gives (s .args .h) (limits s) (s .pre .1) (s .pre .2) one (c .before .if1 .taken)), inl (searched-from (limits s) one))
+    (rw (c .within .ensures) (within-gives (s .args .h) (limits s) (s .pre .1) (s .pre .2) one (c .before .if1 .taken)), inl (searched-from (limits s) one (one-found (c .before .before) .rest)))
 
 side-requires-2 : tie.Need-side-requires-2
 side-requires-2 c κs = let s = c .before .before .before .before .before .before in (limits s, s .pre .2, s .pre .1, inr refl, s .pre .4, s .pre .5)
@@ -62,8 +62,16 @@ returns-2 : tie.Need-returns-2
 returns-2 c =
     let s = c .before .before .before .before .before .before .before .before in
     let one = one-found (c .before .before .before .before .before) .found in
-    let two = two-found (c .before) .found in
-    (rw (c .decide .ensures, reach-read s) (decide-gives (s .args .h) (limits s) (s .pre .1) (s .pre .2) one two (c .before .before .before .before .if1 .left) (c .before .side2 .last .1 .1 .1 .1 .1 .1 .1 .1 .1 .1 .1 .1 .1 .1 .1 .1 .0) (c .before .side2 .last .1 .1 .1 .1 .1 .1 .1 .1 .1 .1 .1 .1 .1 .1 .1 .1 .1 .0)), inr (searched-from (limits s) two))
+    let two = two-found (c .before) .found in (
+      rw (c .decide .ensures, reach-read s) (decide-gives (s .args .h) (limits s) (s .pre .1) (s .pre .2) one two (c .before .before .before .before .if1 .left) (c .before .side2 .last .1 .1 .1 .1 .1 .1 .1 .1 .1 .1 .1 .1 .1 .1 .1 .1 .0) (c .before .side2 .last .1 .1 .1 .1 .1 .1 .1 .1 .1 .1 .1 .1 .1 .1 .1 .1 .1 .0)),
+      inr (record {
+        via₁ = _;
+        up₁ = _;
+        one = searched-from (limits s) one (one-found (c .before .before .before .before .before) .rest);
+        apart = stands-apart (limits s) one (c .before .before .before .before .if1 .left);
+        two = searched-from (limits s) two (two-found (c .before) .rest);
+      }),
+    )
 
 pub advance-spec : {M : Type 1} → statement M
 advance-spec = tie.close (tie.spec side-requires within-requires returns side-requires-2 decide-requires returns-2)

@@ -137,6 +137,12 @@ returns c =
             share-is = c .before .before .before .before .before .eliminate2 .ensures;
             first = rw (sign-read s) at (c .least-break .ensures);
           };
+      rest =
+          record {
+            top = searched .ensures .1 .top;
+            root-via = searched .ensures .1 .root-via;
+            unseen = λ x h. let same = searched .ensures .1 .unseen x h in (same .via-same, same .up-same);
+          };
     }
 
 pub side-spec : {M : Type 1} → statement M
