@@ -3,3 +3,4 @@ pub mod Passes
 pub mod Balance
 pub mod Remarking
 pub mod Hanging
+pub mod WrongBalances

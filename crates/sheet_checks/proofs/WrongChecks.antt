@@ -6,7 +6,8 @@ use mathlib.Core.Path.{_≡_, refl}
 use mathlib.Core.List.{List, [], _∷_}
 use lib.IntN.{ℤ, pos, negℤ}
 use Rattle.ground.specs.Limits.{distanceMost, wantedMost, weightMost}
-use Rattle.sheet_checks.specs.Lent.{Read, Written, lists}
+use Rattle.ground.specs.Entries.{noRecord}
+use Rattle.sheet_checks.specs.Lent.{LentGaps, Read, Written, lists, records}
 use Rattle.sheet_checks.specs.Refusals.{refuse, pass, offender, table}
 
 -- ---- sheets, and what is lent to write
@@ -82,6 +83,18 @@ unfolding table offender
 gap-low = refl
 
 -- ---- two faults: the lower number is told
+
+-- 49 labels and 193 gaps, in either form of lending
+abbrev crowd : LentGaps → Read
+crowd gaps = record { wanted = many 49 (pos 0); weight = many 49 (pos 1); gaps = gaps }
+
+crowded-before-over-gapped : table (crowd (lists (many 193 0) (many 193 1) (many 193 (pos 10)))) (room 49 193 49) ≡ refuse 1 0
+unfolding table offender
+crowded-before-over-gapped = refl
+
+crowded-before-over-gapped-records : table (crowd (records (many 193 noRecord))) (room 49 193 49) ≡ refuse 1 0
+unfolding table offender
+crowded-before-over-gapped-records = refl
 
 -- label 1 is off the plate, and label 0 weighs too little
 place-before-weight : table (lent (pos 0 ∷ pos (wantedMost + 1) ∷ []) (pos 0 ∷ pos 1 ∷ []) [] [] []) (room 2 0 2) ≡ refuse 5 1

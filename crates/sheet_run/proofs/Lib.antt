@@ -4,3 +4,4 @@ pub mod Printing
 pub mod Runs
 pub mod Decided
 pub mod Document
+pub mod WrongRuns
