@@ -5,6 +5,10 @@
  * where the count is 0. A list that is written may overlap no other list of the call. Nothing else is asked: any lengths
  * and any contents may be lent, and every call returns. The calls keep no state, so threads may call them at once.
  *
+ * The caller sees to the stack: nothing checks that there is enough. Arguments and return address included,
+ * dirmoog_layout needs at most 18,248 bytes, dirmoog_read 5,576, dirmoog_listing 4,176 and dirmoog_round 8. What
+ * memcpy and memset need comes on top: a first call that has them looked up took 608 bytes more. 32 KiB are enough.
+ *
  * Every call returns 0, or the number of a refusal. A refused call writes nothing but what its comment names.
  *
  *   no.  trade's word  met if                                                                               place
@@ -54,7 +58,8 @@ extern "C" {
  *   mult_num   numerators of the multipliers, one per gap
  *   mult_den   denominators of the multipliers, one per gap
  *   ring       room for gap numbers; at least as many entries as there are labels
- *   out        the answer's place, then the ring's length. Where it has fewer than 2 entries, what fits is written.
+ *   out        the answer's place, then the ring's length. What fits is written: an out of 1 entry loses the ring's
+ *              length, and an empty one the place too. Entries beyond the second stay.
  *
  * 0, placed: the first entries of place_num, place_den, mult_num and mult_den hold fractions in lowest terms with a
  *   denominator above zero, and carried holds 1 for marked gaps, else 0. Entries beyond stay, and so does ring. out is 0, 0.
@@ -79,7 +84,7 @@ uint64_t dirmoog_layout(const int64_t *wanted, size_t wanted_len,
 /*
  * Rounds num/den to the nearest whole number, halves away from zero. Refused with 12, whose place is 0.
  *
- *   out        the whole number, or 0 where it is refused; nothing where out_len is 0. Entries beyond the first stay.
+ *   out        the whole number, or 0 where it is refused. An empty out loses it. Entries beyond the first stay.
  */
 uint64_t dirmoog_round(int64_t num, int64_t den, int64_t *out, size_t out_len);
 
@@ -93,8 +98,8 @@ uint64_t dirmoog_round(int64_t num, int64_t den, int64_t *out, size_t out_len);
  *   text       the bytes of the text; none are a sheet of no labels
  *   wanted, weight            one entry per label is written
  *   left, right, distance     one entry per gap is written. 48 and 192 entries are room for every sheet.
- *   out        0: the count of labels, then the count of gaps. Refused: the place, then 0. Where it has fewer than 2
- *              entries, what fits is written.
+ *   out        0: the count of labels, then the count of gaps. Refused: the place, then 0. What fits is written: an out
+ *              of 1 entry loses the count of gaps, and an empty one that of labels, or the place, too.
  *
  * Entries beyond stay. Where it is refused, out alone is written. What is read may break rules 5 to 9, which
  * dirmoog_layout checks.
@@ -116,7 +121,7 @@ uint64_t dirmoog_read(const uint8_t *text, size_t text_len,
  *   place_num  numerators of the places, one per label (their count is place_num_len); without effect where number is not 0
  *   place_den  denominators of the places; as many entries. A fraction that dirmoog_round refuses has whole unit 0.
  *   text       the listing is written to its front. 2,048 bytes are room for every listing of dirmoog_layout's places.
- *   out        the count of bytes written, or 0 where it is refused; nothing where out_len is 0. Entries beyond stay.
+ *   out        the count of bytes written, or 0 where it is refused. An empty out loses it. Entries beyond the first stay.
  *
  * The bytes beyond stay. Where it is refused, out alone is written.
  */

@@ -3,7 +3,10 @@
 //! A sheet has labels, each with a wanted place and a weight, and gaps, each of which asks that its
 //! right label stand at least its distance to the right of its left label. [`lay_out`] finds the
 //! placement with the least sum of weight times squared move, in exact fractions, or refuses the
-//! sheet. Any slices may be lent: nothing panics.
+//! sheet. Any slices may be lent: nothing panics. A call needs less than 32 KiB of stack.
+//!
+//! What is proved is the library. Nothing proves this package: its `unsafe` calls, how it turns
+//! numbers into enums, and [`ring_part`], which is its own.
 //!
 //! ```
 //! use dirmoog::{lay_out, round, Answer, Room, Rounded, Sheet};
@@ -160,7 +163,7 @@ fn refusal(number: u64, out: [u64; 2]) -> Refusal {
 }
 
 /// The front part of a ring buffer that holds a ring's gap numbers; for a length beyond the buffer,
-/// the empty part.
+/// the empty part. This is Rust code beside the library, not the proved function of that name.
 ///
 /// ```
 /// assert_eq!(dirmoog::ring_part(&[4, 1, 0], 2), [4, 1]);

@@ -1,7 +1,12 @@
 //! The functions of `libdirmoog_c.a` as `include/dirmoog.h` declares them. A slice is a pointer and a length.
 //!
 //! Each pointer must be valid for its length, also where that is 0, and what is written must
-//! overlap nothing else that is lent. The functions ask for nothing more.
+//! overlap nothing else that is lent. The functions ask for nothing more but stack: 32 KiB are
+//! enough, and nothing checks it (the header has the figures).
+//!
+//! What fits into `out` is written, and the rest is lost: one of 1 entry loses the ring's length
+//! ([`dirmoog_layout`]) or the count of gaps ([`dirmoog_read`]), and an empty one all but the number
+//! that is returned.
 
 extern "C" {
     pub fn dirmoog_layout(

@@ -83,6 +83,7 @@ pub fn read_sheet(text: &[u8], lists: &mut Lists<'_>) -> Reading {
 }
 
 /// Writes the listing of an answer to the front of a buffer: a record per label, or the refusal's.
+/// A refusal with the number 0, which no call answers, is listed as placed.
 ///
 /// ```
 /// use dirmoog::{write_listing, Answer, Listed};

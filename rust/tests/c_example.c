@@ -13,6 +13,8 @@ int main(void)
     uint64_t told[2] = {0, 0}, labels = 0, number, bytes;
     size_t size = fread(text, 1, TEXT, stdin);
 
+    if (ferror(stdin)) /* a failed read is not a short sheet */
+        return 1;
     number = dirmoog_read(text, size, wanted, LABELS, weight, LABELS, left, GAPS, right, GAPS, distance, GAPS, told, 2);
     if (number == 0) {
         uint64_t gaps = told[1];
@@ -23,5 +25,5 @@ int main(void)
     }
     if (dirmoog_listing(number, told[0], place_num, labels, place_den, labels, listing, LISTING, &bytes, 1) != 0)
         return 1;
-    return fwrite(listing, 1, bytes, stdout) == bytes ? 0 : 1;
+    return fwrite(listing, 1, bytes, stdout) == bytes && fflush(stdout) == 0 ? 0 : 1;
 }

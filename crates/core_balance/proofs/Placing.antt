@@ -19,11 +19,12 @@ use Rattle.ground.specs.Entries.{nat, int}
 use Rattle.core_forest.specs.Tree.{Tree}
 use Rattle.core_elimination.specs.declared.Sums.{Sums}
 use Rattle.core_elimination.specs.Block.{weightSum, wantedSum, Given, numerator}
-use Rattle.core_elimination.proofs.Ranges.{plus-most, times-most}
+use Rattle.core_elimination.proofs.Ranges.{above-most, plus-most, times-most}
 use Rattle.core_elimination.proofs.TreeFlow.{isSeen, mean-at}
 use Rattle.core_forest.specs.Problem.{Problem, Limits, graphOf, marksOf, numbersOf, withKind}
 use Rattle.core_elimination.proofs.SearchedBlock.{limits-graph, block-listed, of-block, unseen, gaps-inside, spread-most, block-range, block-sums}
-use Rattle.core_balance.specs.Places.{LabelPlaced, PlacesFound}
+use Rattle.core_balance.specs.Places.{DenMost, LabelPlaced, PlacesFound}
+use Rattle.ground.specs.Limits.{blockWeightMost, coreWeightMost}
 
 -- ---- kinds do not matter
 
@@ -43,6 +44,11 @@ pub places-kind : (p : Problem) (kinds mark : List ℕ) (num den : List ℤ) →
 places-kind p kinds mark num den f j l =
     let q : LabelPlaced (withKind p kinds) mark j (int num j) (int den j) = f j l in
     record { den-least = q .den-least; den-most = q .den-most; num-most = q .num-most; placed = q .placed }
+
+-- ---- denominators under the core's limits
+
+pub den-limit : {p : Problem} → Limits p → (den : ℤ) → DenMost p den → natAbs den ≤ blockWeightMost
+den-limit lim den most = most coreWeightMost (λ i l. above-most (lim .weight-least i l) (lim .weight-most i l))
 
 -- ---- plain numbers and sums
 

@@ -20,16 +20,17 @@ use Rattle.exact.proofs.Divisor.{gauss}
 use Rattle.algebra.proofs.Quotient.{natAbs-*, natAbs-above}
 use Rattle.ground.specs.declared.Label.{Label}
 use Rattle.ground.specs.declared.GapNumber.{GapNumber}
-use Rattle.least_move.specs.Sheet.{Sheet, Gap, label, gapNumber}
+use Rattle.least_move.specs.Sheet.{Sheet, Gap, ignored, label, gapNumber}
 use Rattle.least_move.specs.Placement.{Placement, Holds, Tight}
 use Rattle.least_move.specs.Multipliers.{Multipliers, Conditions, Lawful, counted, asRight, asLeft}
 use Rattle.least_move.specs.Marks.{Step, start, finish, Leads, Marks, MarkedRing}
 use Rattle.least_move.specs.Ring.{Ring, Passable, distanceOf, lengthOf, OnceLeft}
 use Rattle.ground.specs.Entries.{nat, int, Each}
-use Rattle.core_forest.specs.Problem.{Problem, Limits, kindOf, sheetFrom}
+use Rattle.core_forest.specs.Problem.{Problem, Limits, kindOf, marksOf, sheetFrom}
+use Rattle.core_balance.specs.Places.{DenMost}
 use Rattle.core_ring.specs.Way.{stepsOf, IsRing}
 use Rattle.core_settle.specs.Settle.{RingStands}
-use Rattle.core_project.specs.Core.{CorePlaced}
+use Rattle.core_project.specs.Core.{Asked, CorePlaced}
 use Rattle.core_project.specs.Project.{Copied, FrontWritten, FractionsWritten, Buffers, Ready, Solved, RingGiven, problemOf}
 use Rattle.ground.proofs.Each.{each-map}
 
@@ -179,6 +180,11 @@ marks-agree {s} {t} {p} {m} {marked} {marked′} a same c =
           along = each-map (λ u q. (in-gaps a (u .by .0) (q .0), same (u .by) (in-gaps a (u .by .0) (q .0)) ∙ q .1)) (first ∷ rest) (r .along);
           once = r .once;
         }
+
+pub asked-agree : {s t : Sheet} {marked marked′ : GapNumber → Bool} → Agree s t → ((e : GapNumber) → e .0 < s .gaps → marked e ≡ marked′ e) → Asked s marked → Asked t marked′
+asked-agree a same h e l q =
+    let in-s = in-gaps a (e .0) l in
+    move-gap a (λ (g : Gap). g .kind ≢ ignored) e in-s (h e in-s (same e in-s ∙ q))
 
 -- ---- a ring has no more steps than there are labels
 
@@ -332,6 +338,10 @@ module _
         weight-most = λ i h. subst (λ z. z ≤ℤ pos 3600) (sym (weight-at i h)) (ready .limits .weight-most i h);
       }
 
+  -- the bound of a denominator passes to the lent weights and to lowest terms
+  den-given : {q r : Fraction} → Reduced q r → pos 1 ≤ℤ q .den → DenMost work (q .den) → DenMost given (r .den)
+  den-given h least most B light = omega (arith, reduced-den h least, most B (λ j l. subst (λ z. natAbs z ≤ B) (sym (weight-at j l)) (light j l)))
+
   pub solved : {mark : List ℕ} {num den load over pn pd mn md : List ℤ} {carried′ : List ℕ} → CorePlaced work mark num den load over → FractionsWritten (length wanted) num den (b .place-num) (b .place-den) pn pd → FractionsWritten (length left) load over (b .mult-num) (b .mult-den) mn md → FrontWritten (length left) mark (b .carried) carried′ 0 → Solved given b (record { place-num = pn; place-den = pd; mult-num = mn; mult-den = md; carried = carried′; ring = b .ring; back = b .back })
   solved {mark} {num} {den} {load} {over} {pn} {pd} {mn} {md} {carried′} core places mults marks =
       record {
@@ -343,13 +353,18 @@ module _
         ring = refl;
         back = refl;
         conditions = conditions-agree work-agrees (core .conditions _ _ (record { places = places .reduced; multipliers = mults .reduced }));
-        marks = marks-agree work-agrees (λ e h. ap (λ x. eqb x 1) (sym (marks .written (e .0) h))) (core .marks _ _ (record { places = places .reduced; multipliers = mults .reduced }));
+        marks = marks-agree work-agrees same-marks (core .marks _ _ (record { places = places .reduced; multipliers = mults .reduced }));
         bytes = λ e h. subst (λ x. x ≤ 1) (sym (marks .written e h)) (core .bytes e h);
         places-lowest = λ i h. places .reduced (i .0) h .lowest;
         multipliers-lowest = λ e h. mults .reduced (e .0) h .lowest;
-        den-most = λ i h B most. omega (arith, reduced-den (places .reduced i h) (core .den-least i h), core .den-most i h B (λ j l. subst (λ z. natAbs z ≤ B) (sym (weight-at j l)) (most j l)));
+        den-most = λ i h. den-given (places .reduced i h) (core .den-least i h) (core .den-most i h);
         num-most = λ i h B most. reduced-num (places .reduced i h) (core .den-least i h) (B + 940000) (core .num-most i h B (λ j l. subst (λ z. natAbs z ≤ B) (sym (copied .wants-in j l)) (most j l)));
+        asked = asked-agree work-agrees same-marks (core .asked);
+        mult-den-most = λ e h. den-given (mults .reduced e h) (core .over-least e h) (core .over-most e h);
       }
+    where
+      same-marks : (e : GapNumber) → e .0 < length left → marksOf mark (e .0) ≡ marksOf carried′ (e .0)
+      same-marks e h = ap (λ x. eqb x 1) (sym (marks .written (e .0) h))
 
   pub ring-given : {size : ℕ} {found backs ring′ back′ : List ℕ} → RingStands work size found backs → FrontWritten size found (b .ring) ring′ 0 → FrontWritten size backs (b .back) back′ 0 → length found ≡ 48 → length backs ≡ 48 → RingGiven given b (record { place-num = b .place-num; place-den = b .place-den; mult-num = b .mult-num; mult-den = b .mult-den; carried = b .carried; ring = ring′; back = back′ }) size
   ring-given {size} {found} {backs} {ring′} {back′} r rings-in backs-in lf lb =
@@ -360,6 +375,7 @@ module _
         rings = rings-in .filled;
         backs = backs-in .filled;
         stays = refl;
+        back-bytes = λ k h. subst (λ x. x ≤ 1) (sym (backs-in .written k h)) (r .3 k h);
       }
     where
       most : size ≤ length wanted

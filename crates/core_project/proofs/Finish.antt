@@ -105,6 +105,8 @@ module _ (p : Problem) (mark : List ℕ) (num den load over : List ℤ) (lim : L
     num-most = λ i h. s .found i h .num-most;
     conditions = written-conditions;
     marks = written-marks;
+    asked = λ e. s .settled .lawful .asked (e .0);
+    over-most = s .balanced .part .over-most;
   }
 
 -- what settling says, at both outcomes

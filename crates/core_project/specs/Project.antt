@@ -13,11 +13,12 @@ use Rattle.least_move.specs.Multipliers.{Conditions}
 use Rattle.least_move.specs.Marks.{Marks}
 use Rattle.ground.specs.Entries.{nat, int, Filled}
 use Rattle.core_forest.specs.Problem.{Problem, Limits, marksOf, sheetFrom}
+use Rattle.core_balance.specs.Places.{DenMost}
 use Rattle.core_ring.specs.Way.{stepsOf, IsRing}
 use Rattle.core_project.specs.declared.Projected.{Projected}
 use Rattle.core_project.specs.declared.Projected.the-variants.{Placed, Ring}
-use Rattle.core_project.specs.Core.{fraction}
-use Rattle.ground.specs.Limits.{labelsMost, offsetMost}
+use Rattle.core_project.specs.Core.{Asked, fraction}
+use Rattle.ground.specs.Limits.{offsetMost}
 use denote.Triple.Both.{Both}
 use Rattle.ground.specs.Views.{Param}
 use denote.Ref.{RefT, now}
@@ -84,10 +85,14 @@ pub record Solved (p : Problem) (b after : Buffers) : Type 0 where
   pub places-lowest : (i : Label) → i .0 < p .labels → LowestTerms (placeIn after i)
   pub multipliers-lowest : (e : GapNumber) → e .0 < p .gaps → LowestTerms (multiplierIn after e)
   -- every place is over at most 48 times the largest weight, and within the largest want and 940,000 of zero
-  pub den-most : (i : ℕ) → i < p .labels → (B : ℕ) → ((j : ℕ) → j < p .labels → natAbs (int (p .weight) j) ≤ B) → natAbs (int (after .place-den) i) ≤ labelsMost * B
+  pub den-most : (i : ℕ) → i < p .labels → DenMost p (int (after .place-den) i)
   pub num-most :
       (i : ℕ) → i < p .labels → (B : ℕ) → ((j : ℕ) → j < p .labels → natAbs (int (p .wanted) j) ≤ B) →
       natAbs (int (after .place-num) i) ≤ (B + offsetMost) * natAbs (int (after .place-den) i)
+  -- a marked gap is never of the kind ignored
+  pub asked : Asked (sheetFrom p) (markIn after)
+  -- every multiplier is over at most 48 times the largest weight
+  pub mult-den-most : (e : ℕ) → e < p .gaps → DenMost p (int (after .mult-den) e)
 
 pub record RingGiven (p : Problem) (b after : Buffers) (size : ℕ) : Type 0 where
   pub some : 0 < size
@@ -105,6 +110,8 @@ pub record RingGiven (p : Problem) (b after : Buffers) (size : ℕ) : Type 0 whe
         ring = after .ring;
         back = after .back;
       }
+  -- every byte of the front is 0 or 1
+  pub back-bytes : (k : ℕ) → k < size → nat (after .back) k ≤ 1
 
 abbrev pub SaysOf : Problem → Projected → (b after : Buffers) → Type 0
 SaysOf p Placed b after = Solved p b after

@@ -15,8 +15,9 @@ use ground::limits::LABELS;
 ghost use Rattle.core_project.specs.Project.{Ready, ProjectSays, buffersLent, buffersNow};
 ghost use Rattle.ground.specs.Views.{before};
 
-// Finds the least move. Accepted: the first entries of the buffers hold places and multipliers in lowest terms, and the carried bytes the
-// marks. Otherwise a ring stands in the front of the ring buffer, with 1 beside a gap that is passed backwards, and nothing else is changed.
+// Finds the least move. Placed: the first entries of the buffers hold places and multipliers in lowest terms, and the carried bytes the
+// marks, which no ignored gap has. Otherwise a ring stands in the front of the ring buffer, with 1 in the back buffer beside a gap that is
+// passed backwards and 0 beside any other. Nothing else is changed.
 pub fn project(
     wanted: &[i64],
     weight: &[i64],

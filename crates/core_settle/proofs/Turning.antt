@@ -27,6 +27,7 @@ use Rattle.core_worst_gap.specs.WorstGap.{Lacks, WorstOf}
 use Rattle.core_worst_gap.specs.declared.Worst.{Worst}
 use Rattle.core_worst_gap.specs.declared.Worst.the-variants.{Gap}
 use Rattle.core_ring.specs.Way.{Climbable, WayWritten}
+use Rattle.core_ring.proofs.Climb.{way-bytes}
 use Rattle.core_ring.proofs.RingFound.{PushesAs, pushes-of, climbable, ring-written}
 use Rattle.core_settle.specs.declared.Push.{Push}
 use Rattle.core_settle.specs.Raise.{Raised, RaisedTo}
@@ -125,4 +126,4 @@ module _ {p : Problem} {mark₀ : List ℕ} {num₀ den₀ load₀ over₀ : Lis
   pub turn-ring : {e : ℕ} {backwards : Bool} {a b : ℕ} {h : ℤ} {r : Bool} {mark via up : List ℕ} {size : ℕ} {ring back : List ℕ} → Pushing p mark₀ num₀ den₀ e backwards a b h → r ≡ false → Raised p mark₀ e a b (toZ w64 (ofZ w64 h)) r mark via up → WayWritten e backwards a b (p .left) via up size ring back → RingStands p size ring back
   turn-ring {e} {backwards} q is r w =
       let to = raised-to false q is r .1 in
-      (omega (arith, w .count), w .most, ring-written (to .1 .blocked) (to .0) lim (q .to-in) backwards e (q .gap-in) (q .pushes) w)
+      (omega (arith, w .count), w .most, ring-written (to .1 .blocked) (to .0) lim (q .to-in) backwards e (q .gap-in) (q .pushes) w, way-bytes w)

@@ -26,9 +26,13 @@ abbrev pub pushOf : (left right : List ℕ) (distance : List ℤ) → ℕ → Bo
 pushOf left right distance e true = record { from = label (nat right e); to = label (nat left e); reach = pos 0 -ℤ int distance e }
 pushOf left right distance e false = record { from = label (nat left e); to = label (nat right e); reach = int distance e }
 
--- a ring stands in the front of the two ring arrays
+-- a ring stands in the front of the two ring arrays, and each of its bytes is 0 or 1
 abbrev pub RingStands : Problem → ℕ → (ring back : List ℕ) → Type 0
-RingStands p size ring back = (0 < size) × (size ≤ labelsMost) × IsRing (sheetFrom p) (stepsOf (take size ring) (take size back))
+RingStands p size ring back =
+    (0 < size)
+    × (size ≤ labelsMost)
+    × IsRing (sheetFrom p) (stepsOf (take size ring) (take size back))
+    × ((k : ℕ) → k < size → nat back k ≤ 1)
 
 -- a step that came to a ring is given up: the labels stood in balance, and some marks were dropped since
 pub record GivenUp (p : Problem) (mark : List ℕ) (num den load over : List ℤ) : Type 0 where

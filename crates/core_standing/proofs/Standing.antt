@@ -12,7 +12,7 @@ use Rattle.ground.specs.Entries.{nat, int}
 use Rattle.core_elimination.proofs.Ranges.{above-most}
 use Rattle.core_forest.specs.Problem.{Problem, Limits, marksOf, numbersOf, withKind}
 use Rattle.core_balance.specs.Places.{PlacesFound}
-use Rattle.core_balance.proofs.Placing.{places-kind}
+use Rattle.core_balance.proofs.Placing.{den-limit, places-kind}
 use Rattle.core_balance.specs.Balance.{Balanced}
 use Rattle.core_worst_gap.specs.WorstGap.{GapHolds, WorstOf, PlaceInRange, Comparable}
 use Rattle.core_worst_gap.specs.declared.Worst.{Worst}
@@ -36,7 +36,7 @@ module _ {p : Problem} (lim : Limits p) where
 
   module _ (mark : List ℕ) (num den : List ℤ) (found : PlacesFound p mark num den) where
     pub den-size : (i : ℕ) → i < p .labels → natAbs (int den i) ≤ 172800
-    den-size i l = found i l .den-most 3600 weight-size
+    den-size i l = den-limit lim (int den i) (found i l .den-most)
 
     pub den-above : (i : ℕ) → i < p .labels → pos 0 <ℤ int den i
     den-above i l = parts-lt (omega (arith, le-parts (found i l .den-least)))

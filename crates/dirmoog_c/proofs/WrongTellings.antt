@@ -12,7 +12,8 @@ use Rattle.ground.specs.declared.Answer.the-variants.{Placed}
 use Rattle.ground.specs.Answers.{numberOf, placedAt, refusal}
 use Rattle.text_reading.specs.declared.Reading.the-variants.{Sheet}
 use Rattle.text_listing.specs.Listing.{listedIn}
-use Rattle.dirmoog_c.specs.Texted.{readFirst, readSecond, listedNumber}
+use Rattle.text_listing.specs.Listing as writing
+use Rattle.dirmoog_c.specs.Texted.{readFirst, readSecond}
 
 -- the place of a refusal for its number: 6 at label 1
 pub place-for-number : numberOf (refusal 6 1 0) ≢ placedAt (refusal 6 1 0)
@@ -29,7 +30,7 @@ fraction-upside-down same = let magnitudes : _≡_ {A = ℕ} 0 3 = ap natAbs sam
 
 -- denominators listed as numerators: 49 numerators are 1, and 48 beside 49 denominators are 3
 pub places-upside-down :
-    listedNumber (listedIn Placed (replicate 49 (pos 1)) (replicate 48 (pos 1)) [] .answer)
-    ≢ listedNumber (listedIn Placed (replicate 48 (pos 1)) (replicate 49 (pos 1)) [] .answer)
+    writing.numberOf (listedIn Placed (replicate 49 (pos 1)) (replicate 48 (pos 1)) [] .answer)
+    ≢ writing.numberOf (listedIn Placed (replicate 48 (pos 1)) (replicate 49 (pos 1)) [] .answer)
 unfolding listedIn
 places-upside-down same = let numbers : _≡_ {A = ℕ} 1 3 = same in omega arith

@@ -9,40 +9,24 @@ use Rattle.ground.specs.declared.Answer.the-variants.{Placed}
 use Rattle.ground.specs.Answers.{refusal}
 use Rattle.text_reading.specs.declared.Reading.{Reading}
 use Rattle.text_reading.specs.declared.Reading.the-variants as read
-use Rattle.text_listing.specs.declared.Listed.{Listed}
-use Rattle.text_listing.specs.declared.Listed.the-variants as listed
+use Rattle.text_reading.specs.Readings.{numberOf, placeOf, labelsOf, gapsOf}
 use Rattle.text_reading.specs.Texts.{Lists, reading}
 use Rattle.dirmoog_c.specs.Exported.{told}
 
--- document 01's number for each case of a reading, and what is told of it:
--- the counts of labels and gaps, or the place and 0
-abbrev pub readNumber : Reading → ℕ
-readNumber (read.Sheet counts) = 0
-readNumber (read.Refused r) = r .number
-
+-- what C is told of a reading: the counts of labels and gaps, or the place and 0
 abbrev pub readFirst : Reading → ℕ
-readFirst (read.Sheet counts) = counts .labels
-readFirst (read.Refused r) = r .place
+readFirst (read.Sheet counts) = labelsOf (read.Sheet counts)
+readFirst (read.Refused r) = placeOf (read.Refused r)
 
 abbrev pub readSecond : Reading → ℕ
-readSecond (read.Sheet counts) = counts .gaps
-readSecond (read.Refused r) = 0
+readSecond r = gapsOf r
 
 -- a text is read into lent lists, and what is told is told of that reading
 pub record ReadTold (text : List ℕ) (before : Lists) (out : List ℕ) (number : ℕ) (after : Lists) (out-after : List ℕ) : Type 0 where
   pub lists : after ≡ reading text before .lists
-  pub returned : number ≡ readNumber (reading text before .answer)
+  pub returned : number ≡ numberOf (reading text before .answer)
   pub out-told : out-after ≡ told (readFirst (reading text before .answer)) (readSecond (reading text before .answer)) out
 
 -- the answer that a number and a place tell: 0 is placed
 abbrev pub answerOf : ℕ → ℕ → Answer
 answerOf number place = cond (eqb number 0) Placed (refusal number place 0)
-
--- document 01's number for each case of a listing, and the count of bytes written
-abbrev pub listedNumber : Listed → ℕ
-listedNumber (listed.Written bytes) = 0
-listedNumber (listed.Refused r) = r .number
-
-abbrev pub listedBytes : Listed → ℕ
-listedBytes (listed.Written bytes) = bytes
-listedBytes (listed.Refused r) = 0

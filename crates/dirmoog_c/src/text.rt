@@ -8,14 +8,15 @@ use text_reading::Reading;
 use text_reading::read::read_sheet;
 ghost use mathlib.Core.Path.{_≡_};
 ghost use lib.ListN.{set};
-ghost use Rattle.dirmoog_c.specs.Texted.{readNumber, readFirst, readSecond, ReadTold, listedNumber, listedBytes, answerOf};
-ghost use Rattle.text_listing.specs.Listing.{listedIn};
+ghost use Rattle.dirmoog_c.specs.Texted.{readFirst, readSecond, ReadTold, answerOf};
+ghost use Rattle.text_listing.specs.Listing as writing;
+ghost use Rattle.text_reading.specs.Readings as readings;
 ghost use Rattle.text_reading.specs.Texts.{listsLent};
 ghost use Rattle.ground.specs.Views.{after, before};
 
 // The number of a reading.
 fn read_number(reading: Reading) -> usize
-    ensures { λ r. ⌜ r ≡ readNumber reading ⌝ }
+    ensures { λ r. ⌜ r ≡ readings.numberOf reading ⌝ }
 {
     match reading {
         Reading::Sheet(_) => 0,
@@ -82,7 +83,7 @@ fn answer_of(number: usize, place: usize) -> Answer
 
 // The number of a listing.
 fn listed_number(listed: Listed) -> usize
-    ensures { λ r. ⌜ r ≡ listedNumber listed ⌝ }
+    ensures { λ r. ⌜ r ≡ writing.numberOf listed ⌝ }
 {
     match listed {
         Listed::Written(_) => 0,
@@ -92,7 +93,7 @@ fn listed_number(listed: Listed) -> usize
 
 // The count of bytes that a listing wrote.
 fn listed_bytes(listed: Listed) -> usize
-    ensures { λ r. ⌜ r ≡ listedBytes listed ⌝ }
+    ensures { λ r. ⌜ r ≡ writing.bytesOf listed ⌝ }
 {
     match listed {
         Listed::Written(bytes) => bytes,
@@ -112,13 +113,13 @@ pub extern "C" fn dirmoog_listing(
     out: &mut [usize],
 ) -> usize
     ensures { λ r.
-        ⌜ r ≡ listedNumber (listedIn (answerOf number place) (before «place_num») (before «place_den») (before text) .answer)
+        ⌜ r ≡ writing.numberOf (writing.listedIn (answerOf number place) (before «place_num») (before «place_den») (before text) .answer)
         ⌝ }
     ensures { λ _.
-        ⌜ after text ≡ listedIn (answerOf number place) (before «place_num») (before «place_den») (before text) .buffer ⌝ }
+        ⌜ after text ≡ writing.listedIn (answerOf number place) (before «place_num») (before «place_den») (before text) .buffer ⌝ }
     ensures { λ _.
         ⌜ after out ≡ set (before out) 0
-        (listedBytes (listedIn (answerOf number place) (before «place_num») (before «place_den») (before text) .answer)) ⌝ }
+        (writing.bytesOf (writing.listedIn (answerOf number place) (before «place_num») (before «place_den») (before text) .answer)) ⌝ }
 {
     let answer = answer_of(number, place);
     let listed = write_listing(answer, place_num, place_den, text);

@@ -6,6 +6,7 @@ use lib.Dec.{ltb, leb}
 use lib.IntN.{ℤ, pos, negsuc, negℤ, natAbs}
 use lib.Signed.{leZ}
 use Rattle.ground.specs.Limits.{placeDenMost, placeNumMost}
+use Rattle.ground.specs.Answers.{refusedAt}
 use Rattle.exact.specs.declared.Rounded.{Rounded}
 use Rattle.exact.specs.declared.Rounded.the-variants.{Whole, Refused}
 
@@ -26,15 +27,8 @@ roundTiesToAway num den = onSide num (nearestMagnitude (natAbs num) (natAbs den)
 unfoldable pub withinPlaces : ℤ → ℤ → Bool
 withinPlaces num den = leZ (pos 1) den && leZ den (pos placeDenMost) && leb (natAbs num) placeNumMost
 
--- refusal 12, whose place is 0
-abbrev pub refusal12 : Rounded
-refusal12 = Refused (record { number = 12; place = 0; ring = 0 })
-
--- the answer: the whole unit, or refusal 12
-unfoldable pub rounded : ℤ → ℤ → Rounded
-rounded num den = cond (withinPlaces num den) (Whole (roundTiesToAway num den)) refusal12
-
--- the number of an answer (0: not refused), its place, and the whole number given, which is 0 where it is refused
+-- document 01's number for each case of the answer (0: not refused), its place, and the whole number given:
+-- with 12 "the whole number given is 0"
 abbrev pub numberOf : Rounded → ℕ
 numberOf (Whole z) = 0
 numberOf (Refused r) = r .number
@@ -46,3 +40,11 @@ placeOf (Refused r) = r .place
 abbrev pub wholeOf : Rounded → ℤ
 wholeOf (Whole z) = z
 wholeOf (Refused r) = pos 0
+
+-- refusal 12, whose place is 0
+abbrev pub refusal12 : Rounded
+refusal12 = Refused (refusedAt 12 0)
+
+-- the answer: the whole unit, or refusal 12
+unfoldable pub rounded : ℤ → ℤ → Rounded
+rounded num den = cond (withinPlaces num den) (Whole (roundTiesToAway num den)) refusal12

@@ -1,7 +1,13 @@
 -- The answer of a layout call: document 01's number and values for each of its cases.
+-- Every other answer has its own beside its enum, and its refused case carries the same struct.
 use Prim.Native.Nat.{ℕ}
 use Rattle.ground.specs.declared.Answer.{Answer}
 use Rattle.ground.specs.declared.Answer.the-variants.{Placed, Refused}
+use Rattle.ground.specs.declared.Refusal.{Refusal}
+
+-- "refused with its number and its place"; no ring is told but with 9
+abbrev pub refusedAt : ℕ → ℕ → Refusal
+refusedAt number place = record { number = number; place = place; ring = 0 }
 
 -- an answer's number, its place, and with 9 the ring's length: each 0 for placed
 abbrev pub numberOf : Answer → ℕ

@@ -21,7 +21,8 @@ use Rattle.ground.specs.declared.Answer.{Answer}
 use Rattle.ground.specs.declared.Answer.the-variants.{Placed}
 use Rattle.ground.specs.declared.GapRecord.{GapRecord}
 use Rattle.sheet_checks.specs.Lent.{Read, Written, labelCount, sheetOf, placeOf}
-use Rattle.sheet_checks.specs.Refusals.{pass, table}
+use Rattle.sheet_checks.specs.declared.Checked.the-variants.{Pass}
+use Rattle.sheet_checks.specs.Refusals.{table}
 use Rattle.layout.specs.Promise.{Promise, Accepted}
 use Rattle.layout.specs.Demand3.{SameSheets, Demand3, wantOf}
 use Rattle.layout.proofs.Facts.{placed-exactly, accepted-exactly, placed-accepted, placed-least, placed-proper}
@@ -82,7 +83,7 @@ module _ {r : Read} {w : Written} {a : Answer} {after : Written} {r′ : Read} {
   sheets : SameButWants (sheetOf r) (sheetOf r′)
   sheets = same-sheets r r′ same
 
-  accepted-together : table r w ≡ pass → table r′ w′ ≡ pass → (a ≡ Placed) ↔ (a′ ≡ Placed)
+  accepted-together : table r w ≡ Pass → table r′ w′ ≡ Pass → (a ≡ Placed) ↔ (a′ ≡ Placed)
   accepted-together e e′ =
       let there : (a ≡ Placed) ↔ ((p : Placement) × Feasible (sheetOf r) p) = placed-exactly one e in
       let here : (a′ ≡ Placed) ↔ ((p : Placement) × Feasible (sheetOf r′) p) = placed-exactly two e′ in (
@@ -96,11 +97,12 @@ module _ {r : Read} {w : Written} {a : Answer} {after : Written} {r′ : Read} {
       → Within q (placeOf after i) (placeOf after′ i)
   unfolding sheetOf
   moved placed placed′ q hq near =
-      let f : Accepted r w after = placed-accepted one placed in
-      let s : Accepted r′ w′ after′ = placed-accepted two placed′ in
+      let f : Accepted (sheetOf r) w after = placed-accepted one placed in
+      let s : Accepted (sheetOf r′) w′ after′ = placed-accepted two placed′ in
       largest-move (sheetOf r) (sheetOf r′) (placeOf after) (placeOf after′) _ _ (placed-proper one placed) sheets (f .conditions) (s .conditions) q hq near
 
   same-places : a ≡ Placed → a′ ≡ Placed → ((i : Label) → i .0 < labelCount r → wantOf r i ≡ wantOf r′ i) → (i : Label) → i .0 < labelCount r → placeOf after i ≡ placeOf after′ i
+  unfolding sheetOf
   same-places placed placed′ wants i h =
       lowest-unique (placeOf after i) (placeOf after′ i) (placed-accepted one placed .places-lowest i h) (placed-accepted two placed′ .places-lowest i (omega (arith, same .labels)))
       (equal-of-within (placeOf after i) (placeOf after′ i) (moved placed placed′ (whole (pos 0)) (whole-above (pos 0)) (λ j l. no-distance (wants j l)) i h))

@@ -6,12 +6,12 @@ use mathlib.Core.Logic.{inl, inr}
 use mathlib.Core.Bool.{Bool, false}
 use mathlib.Core.List.{List, [], _∷_, map}
 use native.Mathlib.Omega.{arith}
-use lib.Dec.{ltb, eqb}
+use lib.Dec.{ltb}
 use lib.ListN.{length, take, replicate, getD-replicate}
 use lib.Seq.{length-take-le, getD-take}
 use lib.IntN.{ℤ, pos, negsuc, natAbs}
 use lib.Signed.{_≤ℤ_}
-use borrow.Author.Tests.{ltb-false, eqb-true, not-false}
+use borrow.Author.Tests.{ltb-false}
 use Rattle.algebra.proofs.Whole.{parts-le}
 use Rattle.least_move.specs.Sheet.{Proper, gapNumber, label}
 use Rattle.least_move.specs.Placement.{Placement, Feasible}
@@ -28,13 +28,16 @@ use Rattle.core_project.specs.declared.Projected.{Projected}
 use Rattle.core_project.specs.declared.Projected.the-variants as Found
 use Rattle.core_project.proofs.Agreeing.{Agree, conditions-agree, marks-agree, is-ring-agree}
 use Rattle.ground.specs.declared.Answer.{Answer}
-use Rattle.ground.specs.declared.Answer.the-variants.{Placed}
+use Rattle.ground.specs.declared.Answer.the-variants.{Placed, Refused}
+use Rattle.ground.specs.declared.Refusal.{Refusal}
 use Rattle.sheet_checks.specs.Lent.{Read, Written, lists, sheetOf, placeOf, multiplierOf}
-use Rattle.sheet_checks.specs.Refusals.{refuse, pass, outside, unequal, table}
+use Rattle.sheet_checks.specs.declared.Checked.the-variants as checked
+use Rattle.sheet_checks.specs.Refusals.{outside, unequal, table}
 use Rattle.layout.specs.Answered.{answerOf}
 use Rattle.layout.specs.Promise.{Promise, ByTable, Judged, Accepted, RingGiven, forwards}
 use Rattle.ground.specs.Answers.{refusal}
-use Rattle.sheet_checks.proofs.Passed.{Passed, table-passed, or-clear, ends-in, passed-proper}
+use Rattle.sheet_checks.proofs.Passed.{Passed, table-passed, or-clear, same-of-not, ends-in, passed-proper}
+use Rattle.sheet_checks.proofs.CheckLaws.{readOf}
 
 -- ---- tests of one number
 
@@ -55,14 +58,7 @@ weight-hundred : (z : ℤ) → outside (pos 1) (pos 100) z ≡ false → natAbs 
 weight-hundred (pos n) e = ltb-false 100 n (or-clear (ltb n 1) (ltb 100 n) e .1)
 weight-hundred (negsuc n) e = absurd (let z : _≡_ {A = ℕ} 0 1 = cc in omega arith)
 
-same-of-not : (a b : ℕ) → unequal a b ≡ false → a ≡ b
-same-of-not a b e = eqb-true a b (not-false (eqb a b) e)
-
 -- ---- what is lent to the core
-
--- the three lists as a sheet is read
-abbrev pub readOf : (wanted weight : List ℤ) (left right : List ℕ) (distance : List ℤ) → Read
-readOf wanted weight left right distance = record { wanted = wanted; weight = weight; gaps = lists left right distance }
 
 -- every gap asks for at least its distance
 abbrev pub kindsOf : List ℕ → List ℕ
@@ -83,7 +79,7 @@ kinds-zero : (left : List ℕ) → length left ≤ 192 → (k : ℕ) → k < len
 kinds-zero left h k l = getD-take (length left) (replicate 192 0) k 0 l ∙ getD-replicate 192 k 0 0 (omega arith)
 
 -- ---- a sheet that the table lets pass
-module _ (wanted weight : List ℤ) (left right : List ℕ) (distance : List ℤ) (w : Written) (passes : table (readOf wanted weight left right distance) w ≡ pass) where
+module _ (wanted weight : List ℤ) (left right : List ℕ) (distance : List ℤ) (w : Written) (passes : table (readOf wanted weight left right distance) w ≡ checked.Pass) where
   abbrev sheet : Read
   sheet = readOf wanted weight left right distance
 
@@ -147,7 +143,7 @@ module _ (wanted weight : List ℤ) (left right : List ℕ) (distance : List ℤ
   proper : Proper (sheetOf sheet)
   proper = passed-proper sheet w passes
 
-  accepted : {back : List ℕ} {after : Buffers} → Solved given (buffersOf w back) after → Accepted sheet w (writtenOf after)
+  accepted : {back : List ℕ} {after : Buffers} → Solved given (buffersOf w back) after → Accepted (sheetOf sheet) w (writtenOf after)
   unfolding sheetOf
   accepted {back} {after} s =
       record {
@@ -186,7 +182,7 @@ module _ (wanted weight : List ℤ) (left right : List ℕ) (distance : List ℤ
   forward-ring (e ∷ es) (b ∷ backs) l r = subst (IsRing (sheetOf sheet)) (forward-steps (e ∷ es) (b ∷ backs) l (r .passable)) r
 
   ring-refused : {back : List ℕ} {after : Buffers} {size : ℕ} → length back ≡ 48 → core.RingGiven given (buffersOf w back) after size
-      → ((p : Placement) → ¬ (Feasible (sheetOf sheet) p)) × RingGiven sheet w (writtenOf after) size
+      → ((p : Placement) → ¬ (Feasible (sheetOf sheet) p)) × RingGiven (sheetOf sheet) w (writtenOf after) size
   ring-refused {back} {after} {size} b g = go (take size (after .ring)) refl ring
     where
       ready : Ready wanted weight left right distance (kindsOf left) (buffersOf w back)
@@ -202,7 +198,7 @@ module _ (wanted weight : List ℤ) (left right : List ℕ) (distance : List ℤ
       ring = forward-ring (take size (after .ring)) (take size (after .back)) (front ∙ sym front-back)
           (is-ring-agree sheets-agree (stepsOf (take size (after .ring)) (take size (after .back))) (g .ring))
 
-      go : (es : List ℕ) → take size (after .ring) ≡ es → IsRing (sheetOf sheet) (map forwards es) → ((p : Placement) → ¬ (Feasible (sheetOf sheet) p)) × RingGiven sheet w (writtenOf after) size
+      go : (es : List ℕ) → take size (after .ring) ≡ es → IsRing (sheetOf sheet) (map forwards es) → ((p : Placement) → ¬ (Feasible (sheetOf sheet) p)) × RingGiven (sheetOf sheet) w (writtenOf after) size
       go [] e r = absurd r
       go (f ∷ os) e r = (
         ring-excludes (sheetOf sheet) proper (forwards f) (map forwards os) r,
@@ -219,19 +215,19 @@ module _ (wanted weight : List ℤ) (left right : List ℕ) (distance : List ℤ
 
   -- the core's answer
   module _ (back : List ℕ) (after : Buffers) (found : Projected) {a : Answer} (says : core.SaysOf given found (buffersOf w back) after) where
-    judged-placed : found ≡ Found.Placed → a ≡ Placed → Judged sheet w a (writtenOf after)
+    judged-placed : found ≡ Found.Placed → a ≡ Placed → Judged (sheetOf sheet) w a (writtenOf after)
     judged-placed f e = inl (e, accepted (subst (λ (x : Projected). core.SaysOf given x (buffersOf w back) after) f says))
 
-    judged-ring : {size : ℕ} → length back ≡ 48 → found ≡ Found.Ring size → a ≡ refusal 9 0 size → Judged sheet w a (writtenOf after)
+    judged-ring : {size : ℕ} → length back ≡ 48 → found ≡ Found.Ring size → a ≡ refusal 9 0 size → Judged (sheetOf sheet) w a (writtenOf after)
     judged-ring {size} b f e =
-        let told : ((p : Placement) → ¬ (Feasible (sheetOf sheet) p)) × RingGiven sheet w (writtenOf after) size =
+        let told : ((p : Placement) → ¬ (Feasible (sheetOf sheet) p)) × RingGiven (sheetOf sheet) w (writtenOf after) size =
         ring-refused b (subst (λ (x : Projected). core.SaysOf given x (buffersOf w back) after) f says) in
-        subst (λ (x : Answer). Judged sheet w x (writtenOf after)) (sym e) (inr (refl, told .0, told .1))
+        subst (λ (x : Answer). Judged (sheetOf sheet) w x (writtenOf after)) (sym e) (inr (refl, told .0, told .1))
 
-    pub judged : length back ≡ 48 → a ≡ answerOf found → Judged sheet w a (writtenOf after)
+    pub judged : length back ≡ 48 → a ≡ answerOf found → Judged (sheetOf sheet) w a (writtenOf after)
     judged b = go found refl
       where
-        go : (x : Projected) → found ≡ x → a ≡ answerOf x → Judged sheet w a (writtenOf after)
+        go : (x : Projected) → found ≡ x → a ≡ answerOf x → Judged (sheetOf sheet) w a (writtenOf after)
         go Found.Placed f e = judged-placed f e
         go (Found.Ring size) f e = judged-ring b f e
 
@@ -241,8 +237,8 @@ ring-answered found size e = sym (ap answerOf e)
 
 -- ---- the promise
 
-pub refused-kept : {r : Read} {w : Written} {a : Answer} (number place : ℕ) → refuse number place ≡ table r w → a ≡ refusal number place 0 → Promise r w a w
-refused-kept {r} {w} {a} number place e k = record { kept = subst (λ v. ByTable v r w a w) e (k, refl) }
+pub refused-kept : {r : Read} {w : Written} {a : Answer} {q : Refusal} → checked.Refused q ≡ table r w → a ≡ Refused q → Promise r w a w
+refused-kept {r} {w} {a} e k = record { kept = subst (λ v. ByTable v (sheetOf r) w a w) e (k, refl) }
 
-pub judged-kept : {r : Read} {w after : Written} {a : Answer} → pass ≡ table r w → Judged r w a after → Promise r w a after
-judged-kept {r} {w} {after} {a} e j = record { kept = subst (λ v. ByTable v r w a after) e j }
+pub judged-kept : {r : Read} {w after : Written} {a : Answer} → checked.Pass ≡ table r w → Judged (sheetOf r) w a after → Promise r w a after
+judged-kept {r} {w} {after} {a} e j = record { kept = subst (λ v. ByTable v (sheetOf r) w a after) e j }

@@ -13,7 +13,8 @@ use Rattle.least_move.specs.Moved.{Within}
 use Rattle.ground.specs.declared.Answer.{Answer}
 use Rattle.ground.specs.declared.Answer.the-variants.{Placed}
 use Rattle.sheet_checks.specs.Lent.{Read, Written, labelCount, gapCount, recordAt, sheetOf, placeOf}
-use Rattle.sheet_checks.specs.Refusals.{pass, table}
+use Rattle.sheet_checks.specs.declared.Checked.the-variants.{Pass}
+use Rattle.sheet_checks.specs.Refusals.{table}
 
 -- "Two sheets have the same weights and gaps if they have as many labels and as many gaps and agree,
 -- number by number, in weight, left, right and distance"
@@ -36,10 +37,10 @@ Placeable r = (p : Placement) × Feasible (sheetOf r) p
 -- the records and buffers lent to write may differ in all they hold.
 pub record Demand3 (r : Read) (w : Written) (a : Answer) (after : Written) (r′ : Read) (w′ : Written) (a′ : Answer) (after′ : Written) : Type 0 where
   -- where the table lets both pass, both are accepted or neither
-  pub both-or-neither : table r w ≡ pass → table r′ w′ ≡ pass → (a ≡ Placed) ↔ (a′ ≡ Placed)
+  pub both-or-neither : table r w ≡ Pass → table r′ w′ ≡ Pass → (a ≡ Placed) ↔ (a′ ≡ Placed)
   -- since each is accepted exactly if the table lets it pass and a placement meets all gaps
-  pub accepted : (a ≡ Placed) ↔ ((table r w ≡ pass) × Placeable r)
-  pub accepted′ : (a′ ≡ Placed) ↔ ((table r′ w′ ≡ pass) × Placeable r′)
+  pub accepted : (a ≡ Placed) ↔ ((table r w ≡ Pass) × Placeable r)
+  pub accepted′ : (a′ ≡ Placed) ↔ ((table r′ w′ ≡ Pass) × Placeable r′)
   -- the places are the least moves of demand 2
   pub least : a ≡ Placed → LeastMove (sheetOf r) (placeOf after)
   pub least′ : a′ ≡ Placed → LeastMove (sheetOf r′) (placeOf after′)

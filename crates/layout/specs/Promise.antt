@@ -11,16 +11,18 @@ use lib.IntN.{natAbs}
 use Rattle.exact.specs.Fraction.{LowestTerms}
 use Rattle.ground.specs.Limits.{placeDenMost, placeMost}
 use Rattle.ground.specs.declared.Answer.{Answer}
-use Rattle.ground.specs.declared.Answer.the-variants.{Placed}
+use Rattle.ground.specs.declared.Answer.the-variants.{Placed, Refused}
 use Rattle.ground.specs.declared.Label.{Label}
 use Rattle.ground.specs.declared.GapNumber.{GapNumber}
-use Rattle.least_move.specs.Sheet.{gapNumber}
+use Rattle.least_move.specs.Sheet.{Sheet, gapNumber}
 use Rattle.least_move.specs.Placement.{Placement, Feasible, LeastMove}
 use Rattle.least_move.specs.Multipliers.{Conditions}
 use Rattle.least_move.specs.Marks.{Marks, Step}
 use Rattle.least_move.specs.Ring.{Ring}
-use Rattle.sheet_checks.specs.Lent.{Read, Written, labelCount, gapCount, sheetOf, placeOf, multiplierOf}
-use Rattle.sheet_checks.specs.Refusals.{Verdict, refuse, pass, table}
+use Rattle.sheet_checks.specs.declared.Checked.{Checked}
+use Rattle.sheet_checks.specs.declared.Checked.the-variants as checked
+use Rattle.sheet_checks.specs.Lent.{Read, Written, sheetOf, placeOf, multiplierOf}
+use Rattle.sheet_checks.specs.Refusals.{table}
 use Rattle.ground.specs.Entries.{Filled}
 use Rattle.ground.specs.Answers.{ringLengthOf, refusal}
 
@@ -33,22 +35,22 @@ markOf w e = eqb (byteAt w e) 1
 
 -- "Accepted: the first entries, one per label or gap, hold fractions in lowest terms .. Entries beyond stay.
 -- The ring buffer stays. The carried record holds 1 for marked gaps, else 0"
-pub record Accepted (r : Read) (w after : Written) : Type 0 where
-  pub place-nums : Filled (labelCount r) (w .place-num) (after .place-num)
-  pub place-dens : Filled (labelCount r) (w .place-den) (after .place-den)
-  pub mult-nums : Filled (gapCount r) (w .mult-num) (after .mult-num)
-  pub mult-dens : Filled (gapCount r) (w .mult-den) (after .mult-den)
+pub record Accepted (s : Sheet) (w after : Written) : Type 0 where
+  pub place-nums : Filled (s .labels) (w .place-num) (after .place-num)
+  pub place-dens : Filled (s .labels) (w .place-den) (after .place-den)
+  pub mult-nums : Filled (s .gaps) (w .mult-num) (after .mult-num)
+  pub mult-dens : Filled (s .gaps) (w .mult-den) (after .mult-den)
   pub ring : after .ring ≡ w .ring
   pub carried : length (after .carried) ≡ length (w .carried)
-  pub least : LeastMove (sheetOf r) (placeOf after)
-  pub conditions : Conditions (sheetOf r) (placeOf after) (multiplierOf after)
-  pub marks : Marks (sheetOf r) (placeOf after) (multiplierOf after) (markOf after)
-  pub bytes : (e : GapNumber) → e .0 < gapCount r → byteAt after e ≤ 1
-  pub places-lowest : (i : Label) → i .0 < labelCount r → LowestTerms (placeOf after i)
-  pub multipliers-lowest : (e : GapNumber) → e .0 < gapCount r → LowestTerms (multiplierOf after e)
+  pub least : LeastMove s (placeOf after)
+  pub conditions : Conditions s (placeOf after) (multiplierOf after)
+  pub marks : Marks s (placeOf after) (multiplierOf after) (markOf after)
+  pub bytes : (e : GapNumber) → e .0 < s .gaps → byteAt after e ≤ 1
+  pub places-lowest : (i : Label) → i .0 < s .labels → LowestTerms (placeOf after i)
+  pub multipliers-lowest : (e : GapNumber) → e .0 < s .gaps → LowestTerms (multiplierOf after e)
   -- "Every place is over a denominator of at most 4,800 and lies within 1,140,000 of zero"
-  pub den-most : (i : Label) → i .0 < labelCount r → natAbs (placeOf after i .den) ≤ placeDenMost
-  pub near : (i : Label) → i .0 < labelCount r → natAbs (placeOf after i .num) ≤ placeMost * natAbs (placeOf after i .den)
+  pub den-most : (i : Label) → i .0 < s .labels → natAbs (placeOf after i .den) ≤ placeDenMost
+  pub near : (i : Label) → i .0 < s .labels → natAbs (placeOf after i .num) ≤ placeMost * natAbs (placeOf after i .den)
 
 -- a gap number as a step that is passed forwards, as every gap of document 01 is
 abbrev pub forwards : ℕ → Step
@@ -56,26 +58,26 @@ forwards e = record { by = gapNumber e; backwards = false }
 
 -- "9 fills the front of the ring buffer with gap numbers such that .. The rest of it stays";
 -- everything else stays too
-pub record RingGiven (r : Read) (w after : Written) (size : ℕ) : Type 0 where
+pub record RingGiven (s : Sheet) (w after : Written) (size : ℕ) : Type 0 where
   pub first : ℕ
   pub others : List ℕ
   pub front : take size (after .ring) ≡ first ∷ others
   pub counted : size ≡ suc (length others)
-  pub ring : Ring (sheetOf r) (forwards first) (map forwards others)
+  pub ring : Ring s (forwards first) (map forwards others)
   pub rest : Filled size (w .ring) (after .ring)
   pub stays : after ≡ record { place-num = w .place-num; place-den = w .place-den; mult-num = w .mult-num; mult-den = w .mult-den; ring = after .ring; carried = w .carried }
 
 -- a sheet that the table lets pass is placed, or refused with 9 and place 0 because no placement meets all gaps
-abbrev pub Judged : Read → Written → Answer → Written → Type 0
-Judged r w a after =
-    ((a ≡ Placed) × Accepted r w after)
-    ⊎ ((a ≡ refusal 9 0 (ringLengthOf a)) × ((p : Placement) → ¬ (Feasible (sheetOf r) p)) × RingGiven r w after (ringLengthOf a))
+abbrev pub Judged : Sheet → Written → Answer → Written → Type 0
+Judged s w a after =
+    ((a ≡ Placed) × Accepted s w after)
+    ⊎ ((a ≡ refusal 9 0 (ringLengthOf a)) × ((p : Placement) → ¬ (Feasible s p)) × RingGiven s w after (ringLengthOf a))
 
--- "A refused call writes nothing"
-abbrev pub ByTable : Verdict → Read → Written → Answer → Written → Type 0
-ByTable (refuse number place) r w a after = (a ≡ refusal number place 0) × (after ≡ w)
-ByTable pass r w a after = Judged r w a after
+-- what the table refuses has its number and its place: "A refused call writes nothing"
+abbrev pub ByTable : Checked → Sheet → Written → Answer → Written → Type 0
+ByTable (checked.Refused refused) s w a after = (a ≡ Refused refused) × (after ≡ w)
+ByTable checked.Pass s w a after = Judged s w a after
 
 -- the whole promise of a layout call
 pub record Promise (r : Read) (w : Written) (a : Answer) (after : Written) : Type 0 where
-  pub kept : ByTable (table r w) r w a after
+  pub kept : ByTable (table r w) (sheetOf r) w a after

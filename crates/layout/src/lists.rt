@@ -8,24 +8,12 @@ use ground::limits::LABELS;
 use sheet_checks::Checked;
 use sheet_checks::check::Room;
 use sheet_checks::check::check;
-ghost use Rattle.sheet_checks.specs.Lent.{roomLent, roomNow, sheetLent, sheetNow};
+ghost use Rattle.sheet_checks.specs.Lent.{roomLent, roomNow, sheetLent, sheetNow, sheetOf};
 ghost use mathlib.Core.Path.{_≡_};
 ghost use Rattle.layout.specs.Promise.{Promise, Judged};
-ghost use Rattle.ground.specs.Answers.{refusal};
 ghost use Rattle.layout.specs.Answered.{answerOf};
-ghost use Rattle.sheet_checks.specs.Refusals.{table, pass};
-
-// A refusal.
-fn refused(number: usize, place: usize, ring: usize) -> Answer
-    ensures { λ r. ⌜ r ≡ refusal number place ring ⌝ }
-{
-    let told = Refusal {
-        number,
-        place,
-        ring,
-    };
-    Answer::Refused(told)
-}
+ghost use Rattle.sheet_checks.specs.declared.Checked.the-variants.{Pass};
+ghost use Rattle.sheet_checks.specs.Refusals.{table};
 
 // The answer to what the core came to: a ring is refusal 9, whose place is 0.
 fn answered(found: Projected) -> Answer
@@ -57,11 +45,11 @@ fn place(
 ) -> Answer
     requires { let sheet = sheetNow wanted weight left right distance in
         let room = roomNow carried «place_num» «place_den» «mult_num» «mult_den» ring in
-        ⌜ table sheet room ≡ pass ⌝ }
+        ⌜ table sheet room ≡ Pass ⌝ }
     ensures { λ r.
         let sheet = sheetLent wanted weight left right distance in
         let room = roomLent carried «place_num» «place_den» «mult_num» «mult_den» ring in
-        ⌜ Judged sheet (room .entry) r (room .exit) ⌝ }
+        ⌜ Judged (sheetOf sheet) (room .entry) r (room .exit) ⌝ }
 {
     let kinds = [0u8; GAPS];
     let mut back = [0u8; LABELS];
@@ -114,7 +102,7 @@ pub fn lay_out(
     };
     let checked = check(wanted, weight, left, right, distance, room);
     match checked {
-        Checked::Refuse(number, at) => refused(number, at, 0),
+        Checked::Refused(refusal) => Answer::Refused(refusal),
         Checked::Pass => place(
             wanted,
             weight,

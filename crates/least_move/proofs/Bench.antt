@@ -1,40 +1,42 @@
 -- The cases of the bench are right: one test computed over the whole list, and one theorem,
 -- that what passes the test is right.
 use Prim.Native.Nat.{ℕ, zero, suc, _%_, _∣_, _<_}
-use mathlib.Core.Path.{_≡_, refl, ap, subst, subst⁻¹}
+use mathlib.Core.Path.{_≡_, refl, sym, _∙_, ap, subst, subst⁻¹}
 use mathlib.Core.Logic.{_≢_, _⊎_, inl, inr, ⊎-elim}
-use mathlib.Core.Bool.{Bool, true, false, not, _&&_, _||_}
+use mathlib.Core.Bool.{Bool, true, false, cond, not, _&&_, _||_}
 use mathlib.Core.List.{List, [], _∷_, map, List·Memᴰ, List·Memᴰ·not-nil, List·Memᴰ·cases-cons}
 use native.Mathlib.Omega.{arith}
 use native.Mathlib.Nat.{mod-eq-zero-of-dvd, le-of-dvd}
 use lib.Dec.{T, T-not, eqb, ltb, eqb→eq, eqb-refl, ltb→lt}
+use lib.ListN.{length}
 use lib.IntN.{ℤ, pos, natAbs}
 use lib.Signed.{_≤ℤ_, _<ℤ_, leZ, ltZ}
 use Rattle.exact.specs.declared.Fraction.{Fraction}
 use Rattle.exact.specs.Fraction.{LowestTerms}
 use Rattle.exact.specs.Total.{total}
-use Rattle.algebra.proofs.Whole.{le-antisym, lt-parts, parts-natAbs}
+use Rattle.algebra.proofs.Whole.{le-antisym, le-of-eq, not-le-of-lt, lt-parts, parts-natAbs}
 use Rattle.algebra.proofs.Ring.{and-parts}
 use Rattle.algebra.proofs.Sum.{last-or-below}
 use Rattle.ground.specs.declared.Label.{Label}
 use Rattle.ground.specs.declared.GapNumber.{GapNumber}
-use Rattle.least_move.specs.Sheet.{Sheet, Kind, at-least, exactly, ignored, Proper, label, gapNumber}
-use Rattle.least_move.specs.Placement.{Placement, Asks, Feasible, reach}
+use Rattle.least_move.specs.Sheet.{Sheet, Gap, Kind, at-least, exactly, ignored, Proper, label, gapNumber}
+use Rattle.least_move.specs.Placement.{Placement, Asks, Feasible, Tight, reach}
 use Rattle.least_move.specs.Multipliers.{Multipliers, Lawful, Conditions}
 use Rattle.least_move.specs.Marks.{Step, start, finish, Leads}
 use Rattle.least_move.specs.Ring.{Ring, Passable, OnceLeft}
-use Rattle.least_move.specs.Bench.{WrittenGap, Placed, Refused, Moved, Case, placed, refused, moved, bench, gapOf, written, sheetOf, placement, multipliers, forwards, RingOf, RightPlaced, RightRefused, RightMoved, RightCase}
+use Rattle.least_move.specs.Bench.{WrittenGap, Source, given, worked-out, Placed, Refused, Moved, Case, placed, refused, moved, bench, gapOf, written, sheetOf, placement, multipliers, forwards, RingOf, OnlyMultipliers, RightPlaced, RightRefused, RightMoved, RightCase}
 use Rattle.least_move.proofs.Laws.{least-of-conditions, ring-excludes}
+use Rattle.least_move.proofs.Decided.{Alone, Decided, decided-same}
 use Rattle.ground.specs.Entries.{Each}
 
 -- ---- tests that come with their proofs
 
 -- a test that computes, and what it shows where it passes
-record Test (P : Type 0) : Type 0 where
-  passes : Bool
-  shows : T passes → P
+pub record Test (P : Type 0) : Type 0 where
+  pub passes : Bool
+  pub shows : T passes → P
 
-abbrev granted : {P : Type 0} → P → Test P
+abbrev pub granted : {P : Type 0} → P → Test P
 granted p = record { passes = true; shows = λ _. p }
 
 abbrev denied : {P : Type 0} → Test P
@@ -43,7 +45,7 @@ denied = record { passes = false; shows = λ h. absurd h }
 -- A chain `granted f on a on b` is the test of what f shows from the parts:
 -- the parts' statements come from f's result, so that a test of a record tests what the record says.
 infixl 30 _on_
-abbrev _on_ : {P Q : Type 0} → Test (P → Q) → Test P → Test Q
+abbrev pub _on_ : {P Q : Type 0} → Test (P → Q) → Test P → Test Q
 f on a =
     record {
       passes = f .passes && a .passes;
@@ -62,6 +64,11 @@ a or b =
       passes = a .passes || b .passes;
       shows = λ h. ⊎-elim (λ x. inl (a .shows x)) (λ x. inr (b .shows x)) (one-passes (a .passes) (b .passes) h);
     }
+
+-- either of two tests of one statement
+infixr 35 _orelse_
+abbrev _orelse_ : {P : Type 0} → Test P → Test P → Test P
+a orelse b = granted (λ h. ⊎-elim (λ x. x) (λ x. x) h) on (a or b)
 
 -- the second where the first is not so, and the second where the first is so
 abbrev unless : {P Q : Type 0} → Test P → Test Q → Test (¬ P → Q)
@@ -82,7 +89,7 @@ abbrev gaps : {n : ℕ} {P : GapNumber → Type 0} → ((e : GapNumber) → Test
 gaps {n} t = granted (λ h e. h (e .0)) on below n (λ k. t (gapNumber k))
 
 -- at every entry of a list
-abbrev each : {A : Type 0} {P : A → Type 0} → ((a : A) → Test (P a)) → (l : List A) → Test ((a : A) → List·Memᴰ a l → P a)
+abbrev pub each : {A : Type 0} {P : A → Type 0} → ((a : A) → Test (P a)) → (l : List A) → Test ((a : A) → List·Memᴰ a l → P a)
 each t [] = granted (λ a m. absurd (List·Memᴰ·not-nil m))
 each {A} {P} t (x ∷ l) = granted (λ first others a m. ⊎-elim (λ e. subst⁻¹ P e first) (λ n. others a n) (List·Memᴰ·cases-cons m)) on t x on each t l
 
@@ -105,6 +112,11 @@ lessℤ a b = record { passes = ltZ a b; shows = λ h. record { lt = h } }
 
 abbrev equalℤ : (a b : ℤ) → Test (a ≡ b)
 equalℤ a b = granted (λ (h : a ≤ℤ b) (k : b ≤ℤ a). le-antisym h k) on at-mostℤ a b on at-mostℤ b a
+
+abbrev unequalℤ : (a b : ℤ) → Test (¬ (a ≡ b))
+unequalℤ a b =
+    granted (λ h (e : a ≡ b). ⊎-elim (λ l. not-le-of-lt l (le-of-eq (sym e))) (λ l. not-le-of-lt l (le-of-eq e)) h)
+    on (lessℤ a b or lessℤ b a)
 
 abbrev equal-label : (a b : Label) → Test (a ≡ b)
 equal-label a b = granted (ap label) on equal (a .0) (b .0)
@@ -196,7 +208,88 @@ ring? s first rest =
     on once? s (first ∷ rest)
     on lessℤ _ _
 
+-- ---- what the places and the gaps decide
+
+-- a gap that is not tight
+abbrev loose? : (s : Sheet) (p : Placement) (e : ℕ) → Test (¬ (Tight p (s .gap (gapNumber e))))
+loose? s p e = unequalℤ _ _
+
+abbrev pair? : {P Q : Type 0} → Test P → Test Q → Test (P × Q)
+pair? a b = granted (λ x y. (x, y)) on a on b
+
+abbrev alone? : (s : Sheet) (p : Placement) (e i : ℕ) → Test (Alone s p e i)
+alone? s p e i =
+    granted (λ a b c. record { inside = a; once = b; idle = c })
+    on less _ _
+    on (pair? (equal _ _) (unequal _ _) or pair? (equal _ _) (unequal _ _))
+    on below _ (λ f. equal _ _ or (pair? (unequal _ _) (unequal _ _) or loose? s p f))
+
+abbrev decided? : (s : Sheet) (p : Placement) (e : ℕ) → Test (Decided s p e)
+decided? s p e = loose? s p e or (equal-label _ _ or (alone? s p e _ or alone? s p e _))
+
+-- every ring of a sheet has so many gaps
+abbrev RingsOf : Sheet → ℕ → Type 0
+RingsOf s n = (first : Step) (others : List Step) → Ring s first others → suc (length others) ≡ n
+
+-- a step of a ring starts at a label of the sheet
+start-in : (s : Sheet) → Proper s → (t : Step) → t .by .0 < s .gaps → start s t .0 < s .labels
+start-in s proper t h = go (t .backwards)
+  where
+    go : (b : Bool) → cond b (s .gap (t .by) .right) (s .gap (t .by) .left) .0 < s .labels
+    go true = proper .right-in (t .by) h
+    go false = proper .left-in (t .by) h
+
+apart-starts : {a b : Label} → a ≢ b → a .0 ≢ b .0
+apart-starts n e = n (ap label e)
+
+-- one label: a second gap would start where the first did
+one-label : (s : Sheet) → Proper s → s .labels ≡ 1 → RingsOf s 1
+one-label s proper one first [] r = refl
+one-label s proper one first (t ∷ others) r =
+    absurd (omega (arith, start-in s proper first (r .passable .0 .0), start-in s proper t (r .passable .1 .0 .0), apart-starts (r .once .0 .0)))
+
+-- two labels and no self gap: one gap does not close, and a third would start where one did
+two-labels : (s : Sheet) → Proper s → s .labels ≡ 2 → ((e : GapNumber) → e .0 < s .gaps → s .gap e .left ≢ s .gap e .right) → RingsOf s 2
+two-labels s proper two no-self first [] r = absurd (go (first .backwards) (r .closed))
+  where
+    g : Gap
+    g = s .gap (first .by)
+
+    go : (b : Bool) → cond b (g .left) (g .right) ≡ cond b (g .right) (g .left) → ⊥
+    go true e = no-self (first .by) (r .passable .0 .0) e
+    go false e = no-self (first .by) (r .passable .0 .0) (sym e)
+two-labels s proper two no-self first (t ∷ []) r = refl
+two-labels s proper two no-self first (t ∷ u ∷ others) r =
+    absurd
+    (omega (
+      arith,
+      start-in s proper first (r .passable .0 .0),
+      start-in s proper t (r .passable .1 .0 .0),
+      start-in s proper u (r .passable .1 .1 .0 .0),
+      apart-starts (r .once .0 .0),
+      apart-starts (r .once .0 .1 .0),
+      apart-starts (r .once .1 .0 .0),
+    ))
+
+abbrev rings? : (s : Sheet) (n : ℕ) → Test (Proper s → RingsOf s n)
+rings? s n =
+    (granted (λ (one : s .labels ≡ 1) (same : 1 ≡ n) proper first others r. one-label s proper one first others r ∙ same)
+    on equal _ _
+    on equal _ _)
+    orelse
+    (granted (λ (two : s .labels ≡ 2) (same : 2 ≡ n) no-self proper first others r. two-labels s proper two no-self first others r ∙ same)
+    on equal _ _
+    on equal _ _
+    on gaps (λ e. unequal-label _ _))
+
 -- ---- of the cases
+
+abbrev only? : (c : Placed) (by : Source) → Test (Proper (sheetOf c) → Conditions (sheetOf c) (placement c) (multipliers c) → OnlyMultipliers c by)
+only? c given =
+    granted (λ decided proper right m other e h.
+    decided-same (sheetOf c) (placement c) m (multipliers c) proper other right (e .0) h (decided (e .0) h))
+    on below (length (c .sheet .gaps)) (λ e. decided? (sheetOf c) (placement c) e)
+only? c worked-out = granted (λ _ _. tt)
 
 abbrev ring-of? : (s : Sheet) (l : List ℕ) → Test (RingOf s l)
 ring-of? s [] = denied
@@ -215,28 +308,41 @@ no-placement s (e ∷ l) h r = ring-excludes s h (forwards e) (map forwards l) r
 
 abbrev placed? : (c : Placed) → Test (RightPlaced c)
 placed? c =
-    granted (λ proper a b c′ d e. record {
+    granted (λ proper a k b c′ d e o. record {
       weighted = a;
+      carrying = k;
       per-label = b;
       per-gap = c′;
       conditions = d;
       least = least-of-conditions (sheetOf c) (placement c) (multipliers c) proper d;
       lowest = e;
+      only = o proper d;
     })
     on proper? (sheetOf c)
     on equal _ _
     on equal _ _
     on equal _ _
+    on equal _ _
     on conditions? _ _ _
     on each lowest? _
+    on only? c (c .source)
 
 abbrev refused? : (c : Refused) → Test (RightRefused c)
 refused? c =
-    granted (λ proper a b r. record { weighted = a; number = b; ring = r; none = no-placement (written (c .sheet)) (c .ring) proper r })
+    granted (λ proper a k b r o. record {
+      weighted = a;
+      carrying = k;
+      number = b;
+      ring = r;
+      none = no-placement (written (c .sheet)) (c .ring) proper r;
+      only = o proper;
+    })
     on proper? (written (c .sheet))
     on equal _ _
     on equal _ _
+    on equal _ _
     on ring-of? (written (c .sheet)) (c .ring)
+    on rings? (written (c .sheet)) (length (c .ring))
 
 abbrev moved? : (c : Moved) → Test (RightMoved c)
 moved? c =

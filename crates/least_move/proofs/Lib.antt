@@ -2,8 +2,10 @@ pub mod Flow
 pub mod Scaled
 pub mod Bridge
 pub mod Laws
-pub mod Bench
 pub mod Forest
+pub mod Decided
+pub mod Places
+pub mod Bench
 pub mod Progress
 pub mod Advance
 pub mod Blocks

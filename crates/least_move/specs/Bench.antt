@@ -1,10 +1,10 @@
 -- The sheets on the bench (document 01): its cases P1 to P10 in one list, in its order,
 -- and what it is for a case to be right.
-use Prim.Native.Nat.{ℕ, _<_}
+use Prim.Native.Nat.{ℕ, suc, _<_}
 use mathlib.Core.Path.{_≡_}
 use mathlib.Core.Bool.{false, cond}
 use mathlib.Core.List.{List, [], _∷_, _++_, map, List·Memᴰ}
-use lib.ListN.{length, getD}
+use lib.ListN.{length, getD, replicate}
 use lib.Dec.{eqb}
 use lib.IntN.{ℤ, pos, negℤ, _-ℤ_}
 use Rattle.exact.specs.declared.Fraction.{Fraction}
@@ -35,17 +35,24 @@ pub record WrittenGap : Type 0 where
 abbrev pub _to_of_ : ℕ → ℕ → ℤ → WrittenGap
 u to v of g = record { left = u; right = v; distance = g }
 
--- a sheet: a want and a weight per label, and the gaps
+-- a sheet: a want and a weight per label, the gaps, and the carried record that it is laid out with, a byte per gap
 pub record Written : Type 0 where
   pub wants : List ℤ
   pub weights : List ℤ
   pub gaps : List WrittenGap
+  pub carried : List ℕ
+
+-- whether the document gives a case's multipliers
+pub data Source : Type 0 where
+  given : Source
+  worked-out : Source
 
 -- a sheet with its places and multipliers, and one refused with its number and its ring of gaps
 pub record Placed : Type 0 where
   pub sheet : Written
   pub places : List Fraction
   pub multipliers : List Fraction
+  pub source : Source
 
 pub record Refused : Type 0 where
   pub sheet : Written
@@ -67,86 +74,134 @@ pub data Case : Type 0 where
 
 -- ---- the list
 
+-- a sheet laid out from a carried record of zeros
 abbrev pub sheet : List ℤ → List ℤ → List WrittenGap → Written
-sheet wants weights gaps = record { wants = wants; weights = weights; gaps = gaps }
+sheet wants weights gaps =
+    record { wants = wants; weights = weights; gaps = gaps; carried = replicate (length gaps) 0 }
 
--- P3 and P4 have names, since P4's remark speaks of both.
+-- P1 wants 0, 0, weights 1, gap 0 to 1 of 10: -5, 5, multiplier 10
+abbrev pub P1 : Placed
+P1 =
+    record {
+      sheet = sheet (pos 0 ∷ pos 0 ∷ []) (pos 1 ∷ pos 1 ∷ []) (0 to 1 of pos 10 ∷ []);
+      places = minus 5 over 1 ∷ pos 5 over 1 ∷ [];
+      multipliers = pos 10 over 1 ∷ [];
+      source = given;
+    }
+
+-- P2 wants 0, 4, weights 1, 2, gap 10: -4, 6, multiplier 8
+abbrev pub P2 : Placed
+P2 =
+    record {
+      sheet = sheet (pos 0 ∷ pos 4 ∷ []) (pos 1 ∷ pos 2 ∷ []) (0 to 1 of pos 10 ∷ []);
+      places = minus 4 over 1 ∷ pos 6 over 1 ∷ [];
+      multipliers = pos 8 over 1 ∷ [];
+      source = given;
+    }
+
+-- P3 wants 0, 3, weights 1, gap 6: -3/2, 9/2, multiplier 3
 abbrev pub P3 : Placed
 P3 =
     record {
       sheet = sheet (pos 0 ∷ pos 3 ∷ []) (pos 1 ∷ pos 1 ∷ []) (0 to 1 of pos 6 ∷ []);
       places = minus 3 over 2 ∷ pos 9 over 2 ∷ [];
       multipliers = pos 3 over 1 ∷ [];
+      source = given;
     }
 
--- The document gives no multipliers for P4, P8 and P9.
--- Those here are worked out: 4, 5 and 0, and 0 balance their labels.
+-- P4 wants 1, 3, else as P3: -1, 5
 abbrev pub P4 : Placed
 P4 =
     record {
       sheet = sheet (pos 1 ∷ pos 3 ∷ []) (pos 1 ∷ pos 1 ∷ []) (0 to 1 of pos 6 ∷ []);
       places = minus 1 over 1 ∷ pos 5 over 1 ∷ [];
       multipliers = pos 4 over 1 ∷ [];
+      source = worked-out;
     }
 
-unfoldable pub bench : List Case
-bench =
-    -- P1 wants 0, 0, weights 1, gap 0 to 1 of 10: -5, 5, multiplier 10
-    placed (record {
-      sheet = sheet (pos 0 ∷ pos 0 ∷ []) (pos 1 ∷ pos 1 ∷ []) (0 to 1 of pos 10 ∷ []);
-      places = minus 5 over 1 ∷ pos 5 over 1 ∷ [];
-      multipliers = pos 10 over 1 ∷ [];
-    })
-    -- P2 wants 0, 4, weights 1, 2, gap 10: -4, 6, multiplier 8
-    ∷ placed (record {
-      sheet = sheet (pos 0 ∷ pos 4 ∷ []) (pos 1 ∷ pos 2 ∷ []) (0 to 1 of pos 10 ∷ []);
-      places = minus 4 over 1 ∷ pos 6 over 1 ∷ [];
-      multipliers = pos 8 over 1 ∷ [];
-    })
-    -- P3 wants 0, 3, weights 1, gap 6: -3/2, 9/2, multiplier 3
-    ∷ placed P3
-    -- P4 wants 1, 3, else as P3: -1, 5. One want moved by 1, both places by 1/2
-    ∷ placed P4
-    ∷ moved (record { before = P3; after = P4; label = 0; want-by = pos 1; places-by = pos 1 over 2 })
-    -- P5 wants 0, 100, weights 1, gap 10, carried record marked: 0, 100, multiplier 0.
-    -- The definitions do not read the carried record
-    ∷ placed (record {
-      sheet = sheet (pos 0 ∷ pos 100 ∷ []) (pos 1 ∷ pos 1 ∷ []) (0 to 1 of pos 10 ∷ []);
+-- P5 wants 0, 100, weights 1, gap 10, carried record marked: 0, 100, multiplier 0
+abbrev pub P5 : Placed
+P5 =
+    record {
+      sheet =
+          record {
+            wants = pos 0 ∷ pos 100 ∷ [];
+            weights = pos 1 ∷ pos 1 ∷ [];
+            gaps = 0 to 1 of pos 10 ∷ [];
+            carried = 1 ∷ [];
+          };
       places = pos 0 over 1 ∷ pos 100 over 1 ∷ [];
       multipliers = pos 0 over 1 ∷ [];
-    })
-    -- P6 wants 0, 0, 0, weights 1, gaps 0 to 1 of 2, 1 to 2 of 2, 0 to 2 of 10: -5, 0, 5; multipliers 0, 0, 10
-    ∷ placed (record {
+      source = given;
+    }
+
+-- P6 wants 0, 0, 0, weights 1, gaps 0 to 1 of 2, 1 to 2 of 2, 0 to 2 of 10: -5, 0, 5; multipliers 0, 0, 10
+abbrev pub P6 : Placed
+P6 =
+    record {
       sheet =
           sheet (pos 0 ∷ pos 0 ∷ pos 0 ∷ []) (pos 1 ∷ pos 1 ∷ pos 1 ∷ [])
           (0 to 1 of pos 2 ∷ 1 to 2 of pos 2 ∷ 0 to 2 of pos 10 ∷ []);
       places = minus 5 over 1 ∷ pos 0 over 1 ∷ pos 5 over 1 ∷ [];
       multipliers = pos 0 over 1 ∷ pos 0 over 1 ∷ pos 10 over 1 ∷ [];
-    })
-    -- P7 wants 0 and weights 1 from here to P10; gaps 0 to 1 of 5, 1 to 0 of -4: refusal 9, ring of both
-    ∷ refused (record {
+      source = given;
+    }
+
+-- P7 wants 0 and weights 1 from here to P10; gaps 0 to 1 of 5, 1 to 0 of -4: refusal 9, ring of both
+abbrev pub P7 : Refused
+P7 =
+    record {
       sheet = sheet (pos 0 ∷ pos 0 ∷ []) (pos 1 ∷ pos 1 ∷ []) (0 to 1 of pos 5 ∷ 1 to 0 of minus 4 ∷ []);
       number = 9;
       ring = 0 ∷ 1 ∷ [];
-    })
-    -- P8 the same with -5: -5/2, 5/2
-    ∷ placed (record {
+    }
+
+-- P8 the same with -5: -5/2, 5/2
+abbrev pub P8 : Placed
+P8 =
+    record {
       sheet = sheet (pos 0 ∷ pos 0 ∷ []) (pos 1 ∷ pos 1 ∷ []) (0 to 1 of pos 5 ∷ 1 to 0 of minus 5 ∷ []);
       places = minus 5 over 2 ∷ pos 5 over 2 ∷ [];
       multipliers = pos 5 over 1 ∷ pos 0 over 1 ∷ [];
-    })
-    -- P9 one label, self gap of 0: placed at 0
-    ∷ placed (record {
+      source = worked-out;
+    }
+
+-- P9 one label, self gap of 0: placed at 0
+abbrev pub P9 : Placed
+P9 =
+    record {
       sheet = sheet (pos 0 ∷ []) (pos 1 ∷ []) (0 to 0 of pos 0 ∷ []);
       places = pos 0 over 1 ∷ [];
       multipliers = pos 0 over 1 ∷ [];
-    })
-    -- P10 self gap of 1: refusal 9, ring of one
-    ∷ refused (record {
+      source = worked-out;
+    }
+
+-- P10 self gap of 1: refusal 9, ring of one
+abbrev pub P10 : Refused
+P10 =
+    record {
       sheet = sheet (pos 0 ∷ []) (pos 1 ∷ []) (0 to 0 of pos 1 ∷ []);
       number = 9;
       ring = 0 ∷ [];
-    })
+    }
+
+-- P4 against P3: "One want moved by 1, both places by 1/2"
+abbrev pub P4-moved : Moved
+P4-moved = record { before = P3; after = P4; label = 0; want-by = pos 1; places-by = pos 1 over 2 }
+
+unfoldable pub bench : List Case
+bench =
+    placed P1
+    ∷ placed P2
+    ∷ placed P3
+    ∷ placed P4
+    ∷ moved P4-moved
+    ∷ placed P5
+    ∷ placed P6
+    ∷ refused P7
+    ∷ placed P8
+    ∷ placed P9
+    ∷ refused P10
     ∷ []
 
 -- ---- what it is for a case to be right
@@ -174,19 +229,31 @@ placement c i = getD (c .places) (i .0) (whole (pos 0))
 abbrev pub multipliers : Placed → Multipliers
 multipliers c e = getD (c .multipliers) (e .0) (whole (pos 0))
 
--- one weight per label
+-- one weight per label, and one carried byte per gap
 abbrev pub Weighted : Written → Type 0
 Weighted w = length (w .weights) ≡ length (w .wants)
+
+abbrev pub Carrying : Written → Type 0
+Carrying w = length (w .carried) ≡ length (w .gaps)
+
+-- where the document gives multipliers they are the only ones that meet the conditions with these places
+abbrev pub OnlyMultipliers : Placed → Source → Type 0
+OnlyMultipliers c given =
+    (m : Multipliers) → Conditions (sheetOf c) (placement c) m →
+    (e : GapNumber) → e .0 < length (c .sheet .gaps) → m e ≃ multipliers c e
+OnlyMultipliers c worked-out = Unit {0}
 
 -- one place per label and one multiplier per gap, which meet the conditions;
 -- the placement is the least move, and each fraction is in lowest terms
 pub record RightPlaced (c : Placed) : Type 0 where
   pub weighted : Weighted (c .sheet)
+  pub carrying : Carrying (c .sheet)
   pub per-label : length (c .places) ≡ length (c .sheet .wants)
   pub per-gap : length (c .multipliers) ≡ length (c .sheet .gaps)
   pub conditions : Conditions (sheetOf c) (placement c) (multipliers c)
   pub least : LeastMove (sheetOf c) (placement c)
   pub lowest : (q : Fraction) → List·Memᴰ q (c .places ++ c .multipliers) → LowestTerms q
+  pub only : OnlyMultipliers c (c .source)
 
 -- the gaps, each passed from left to right, are a ring
 abbrev pub forwards : ℕ → Step
@@ -196,12 +263,15 @@ abbrev pub RingOf : Sheet → List ℕ → Type 0
 RingOf s [] = ⊥
 RingOf s (e ∷ es) = Ring s (forwards e) (map forwards es)
 
--- 9 is "no placement meets all gaps", and the ring shows it
+-- 9 is "no placement meets all gaps", and the ring shows it; every ring of the sheet has as many gaps
 pub record RightRefused (c : Refused) : Type 0 where
   pub weighted : Weighted (c .sheet)
+  pub carrying : Carrying (c .sheet)
   pub number : c .number ≡ 9
   pub ring : RingOf (written (c .sheet)) (c .ring)
   pub none : (p : Placement) → ¬ (Feasible (written (c .sheet)) p)
+  pub only : (first : Step) (others : List Step) → Ring (written (c .sheet)) first others →
+      suc (length others) ≡ length (c .ring)
 
 -- two sheets with the same weights and gaps: the want of the one label is moved so far and no other is,
 -- and every place is moved so far

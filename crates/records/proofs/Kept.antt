@@ -2,7 +2,7 @@
 use Prim.Native.Nat.{ℕ, zero, suc, _+_, _≤_, _<_}
 use mathlib.Core.Path.{_≡_, refl, sym, _∙_}
 use mathlib.Core.Bool.{Bool, true, false, cond, not, _||_}
-use mathlib.Core.List.{List}
+use mathlib.Core.List.{List, _∷_, map}
 use native.Mathlib.Omega.{arith}
 use native.Mathlib.Numerals.{add-one}
 use lib.Dec.{T, ltb, eqb, eqb-refl}
@@ -12,9 +12,11 @@ use lib.IntN.{ℤ, pos}
 use borrow.Author.Tests.{ltb-true, ltb-false}
 use Rattle.ground.specs.declared.GapRecord.{GapRecord}
 use Rattle.ground.specs.declared.Answer.{Answer}
-use Rattle.sheet_checks.specs.Lent.{Read, Written, lists, records, recordAt}
+use Rattle.least_move.specs.Sheet.{Sheet}
+use Rattle.sheet_checks.specs.Lent.{Written, lists, records, recordAt, sheetOf}
 use Rattle.ground.specs.Entries.{noRecord}
-use Rattle.sheet_checks.specs.Refusals.{Verdict, check, table}
+use Rattle.sheet_checks.specs.Refusals.{Row, inTurn, test, offender, tableOf}
+use Rattle.ground.specs.Limits.{gapsMost, labelsMost}
 use Rattle.layout.specs.Promise.{Promise, ByTable}
 use Rattle.ground.specs.Answers.{refusal}
 use Rattle.records.specs.Records.{keptOf, copied, Apart, Keeps}
@@ -159,16 +161,21 @@ module _ (wanted weight : List ℤ) (count : ℕ) (kept : List GapRecord) (w : W
       same = record { count = sizes .0 ∙ sym (keeps .counted); even = rw (sizes .0, sizes .1, sizes .2) (even (eqb count count) (eqb-refl count)); gap = gaps }
 
   -- a list that is too long is refused by the first two checks
-  long-kept : (r : Read) (a : Answer) (b c : Bool) (later : Verdict) → (c ≡ false → ⊥) → a ≡ refusal (cond b 1 2) 0 0 → ByTable (check 1 b (check 2 c later)) r w a w
-  long-kept r a true c later h e = (e, refl)
-  long-kept r a false true later h e = (e, refl)
-  long-kept r a false false later h e = absurd (h refl)
+  long-kept : (s : Sheet) (a : Answer) (labels gaps : ℕ) (ragged short : Bool) (rows : List Row) → (ltb gapsMost gaps ≡ false → ⊥)
+      → a ≡ refusal (cond (ltb labelsMost labels) 1 2) 0 0 → ByTable (tableOf labels gaps ragged short rows) s w a w
+  unfolding tableOf
+  long-kept s a labels gaps ragged short rows = go (ltb labelsMost labels) (ltb gapsMost gaps)
+    where
+      go : (b c : Bool) → (c ≡ false → ⊥) → a ≡ refusal (cond b 1 2) 0 0
+          → ByTable (inTurn (test 1 b ∷ test 2 c ∷ test 3 ragged ∷ test 4 short ∷ map offender rows)) s w a w
+      go true c h e = (e, refl)
+      go false true h e = (e, refl)
+      go false false h e = absurd (h refl)
 
   pub promise-long : (a : Answer) (many : Bool) → 192 < count → ltb 48 (length wanted) ≡ many → a ≡ refusal (cond many 1 2) 0 0
       → (gs : List GapRecord) → Keeps gs count kept → Promise (record { wanted = wanted; weight = weight; gaps = records gs }) w a w
-  unfolding table
   promise-long a many long t e gs keeps =
       record {
-        kept = long-kept (record { wanted = wanted; weight = weight; gaps = records gs }) a (ltb 48 (length wanted)) (ltb 192 (length gs)) _
+        kept = long-kept (sheetOf (record { wanted = wanted; weight = weight; gaps = records gs })) a (length wanted) (length gs) _ _ _
             (λ q. omega (arith, ltb-false 192 (length gs) q, keeps .counted)) (rw t e);
       }

@@ -1,11 +1,10 @@
--- What the checks' loops and tests show of the refusal table:
--- the first offender of a list, and tests that pass or refuse.
+-- What the checks' loops and tests show of the refusal table: the first offender of a row, and checks one after another.
 use Prim.Native.Nat.{ℕ, zero, suc, _≤_, _<_, _+_, _^_}
-use mathlib.Core.Path.{_≡_, refl, sym, _∙_, subst}
+use mathlib.Core.Path.{_≡_, refl, sym, _∙_, ap, subst}
 use mathlib.Core.Bool.{Bool, true, false, cond, _||_}
-use mathlib.Core.List.{List}
+use mathlib.Core.List.{List, [], _∷_, _++_, map}
 use native.Mathlib.Omega.{arith}
-use lib.Dec.{ltb, eqb}
+use lib.Dec.{ltb}
 use lib.ListN.{length, getD}
 use lib.IntN.{ℤ, pos, negℤ}
 use lib.Signed.{ltZ, mag}
@@ -13,35 +12,46 @@ use mir.Syntax.{w64}
 use mir.Val.{SFits}
 use mir.ValLaws.{toZ-ofZ}
 use borrow.Author.Count.{below-more}
-use borrow.Author.Tests.{ltb-true, ltb-false, eqb-true, not-false, lt-ltb, le-ltb}
+use borrow.Author.Tests.{ltb-true, ltb-false, lt-ltb, le-ltb}
 use Rattle.algebra.proofs.Quotient.{kept}
-use Rattle.ground.specs.Limits.{distanceMost, gapsMost, labelsMost, wantedMost, weightLeast, weightMost}
+use Rattle.ground.specs.declared.Refusal.{Refusal}
 use Rattle.sheet_checks.specs.declared.Checked.{Checked}
-use Rattle.sheet_checks.specs.declared.Checked.the-variants.{Pass, Refuse}
+use Rattle.sheet_checks.specs.declared.Checked.the-variants.{Pass, Refused}
 use Rattle.sheet_checks.specs.declared.check.Room.{Room}
-use Rattle.sheet_checks.specs.Lent.{Written, lists}
-use Rattle.sheet_checks.specs.Refusals.{Verdict, refuse, pass, offender, outside, unequal, table}
-use Rattle.sheet_checks.specs.Checks.{verdictOf, onward, Sizes, CheckedBy, OutsideBy, strange, StrangerBy, shortOf, SizedBy, Even, contentsOf, ContentsBy}
-use Rattle.sheet_checks.proofs.Passed.{check-pass, or-clear}
+use Rattle.sheet_checks.specs.Lent.{Read, lists}
+use Rattle.sheet_checks.specs.Refusals.{Row, firstOf, inTurn, refuse, offenderBelow, offender, sizeTests, tableOf, outside, unequal, short, badWeight, badGap, rows, tableFor}
+use Rattle.sheet_checks.specs.Checks.{rangeRow, strangerRow, raggedSizes, Even, contentsOf}
+use Rattle.sheet_checks.proofs.Passed.{or-clear, same-of-not, test-pass, turn-pass}
+use Rattle.ground.specs.Limits.{distanceMost, weightLeast, weightMost}
 
--- none is bad: what the later checks find
-pub offender-none : (number n : ℕ) (bad : ℕ → Bool) → ((j : ℕ) → j < n → bad j ≡ false) → (later : Verdict) → later ≡ offender number n bad later
-unfolding offender
-offender-none number zero bad clear later = refl
-offender-none number (suc n) bad clear later = rw (clear n (omega arith)) (offender-none number n bad (λ j h. clear j (omega arith)) later)
+-- ---- the first offender of a row
 
--- the first that is bad
-pub offender-first : (number n k : ℕ) (bad : ℕ → Bool) → k < n → ((j : ℕ) → j < k → bad j ≡ false) → bad k ≡ true → (later : Verdict) → refuse number k ≡ offender number n bad later
-unfolding offender
-offender-first number zero k bad h clear e later = absurd (omega arith)
-offender-first number (suc n) k bad h clear e later =
-    go (ltb k n) refl (λ l. offender-first number n k bad l clear e (cond (bad n) (refuse number n) later))
-  where
-    go : (t : Bool) → ltb k n ≡ t → (k < n → refuse number k ≡ offender number n bad (cond (bad n) (refuse number n) later)) → refuse number k ≡ offender number n bad (cond (bad n) (refuse number n) later)
-    go true t before = before (ltb-true k n t)
-    go false t before =
-        let same : n ≡ k = omega (arith, ltb-false k n t) in
-        rw (same, e) (offender-none number k bad clear (refuse number k))
+module _ (number : ℕ) (bad : ℕ → Bool) where
+  -- none of n is bad
+  none-below : (n : ℕ) → ((j : ℕ) → j < n → bad j ≡ false) → Pass ≡ offenderBelow number n bad
+  unfolding offenderBelow
+  none-below zero clear = refl
+  none-below (suc n) clear = rw (clear n (omega arith), sym (none-below n (λ j h. clear j (omega arith))))
+
+  -- the first of n that is bad
+  first-below : (k n : ℕ) → k < n → ((j : ℕ) → j < k → bad j ≡ false) → bad k ≡ true → refuse number k ≡ offenderBelow number n bad
+  unfolding offenderBelow
+  first-below k zero h clear e = absurd (omega arith)
+  first-below k (suc n) h clear e = at (ltb k n) refl (λ l. first-below k n l clear e)
+    where
+      at : (t : Bool) → ltb k n ≡ t → (k < n → refuse number k ≡ offenderBelow number n bad)
+          → refuse number k ≡ firstOf (offenderBelow number n bad) (cond (bad n) (refuse number n) Pass)
+      at true t before = rw (sym (before (ltb-true k n t)))
+      at false t before =
+          let same : n ≡ k = omega (arith, ltb-false k n t) in
+          rw (same, e, sym (none-below k clear))
+
+-- of a row: none is bad, and the first that is
+pub none-bad : (row : Row) → ((j : ℕ) → j < row .count → row .bad j ≡ false) → Pass ≡ offender row
+none-bad row = none-below (row .number) (row .bad) (row .count)
+
+pub first-bad : (row : Row) (k : ℕ) → k < row .count → ((j : ℕ) → j < k → row .bad j ≡ false) → row .bad k ≡ true → refuse (row .number) k ≡ offender row
+first-bad row k = first-below (row .number) (row .bad) k (row .count)
 
 -- ---- numbers outside a range, as 64 bits hold them
 
@@ -71,25 +81,25 @@ Inside list least most k = (j : ℕ) → j < k → outside least most (getD list
 
 -- the loop's range is read back from bits, the contract's is not
 module _ (list : List ℤ) (least most : ℤ) (number : ℕ) (low : SFits w64 least) (high : SFits w64 most) where
-  by-plain : (r : Checked) → OutsideBy list (kept least) (kept most) number r → OutsideBy list least most number r
-  by-plain r h =
-      subst (λ (v : ℤ). OutsideBy list v most number r) (toZ-ofZ w64 least low)
-      (subst (λ (v : ℤ). OutsideBy list (kept least) v number r) (toZ-ofZ w64 most high) h)
+  by-plain : {r : Checked} → r ≡ offender (rangeRow list (kept least) (kept most) number) → r ≡ offender (rangeRow list least most number)
+  by-plain {r} h =
+      subst (λ (v : ℤ). r ≡ offender (rangeRow list v most number)) (toZ-ofZ w64 least low)
+      (subst (λ (v : ℤ). r ≡ offender (rangeRow list (kept least) v number)) (toZ-ofZ w64 most high) h)
 
   -- at the number k, after numbers inside
   module _ (k : ℕ) (inside : Inside list (kept least) (kept most) k) where
-    refused : k < length list → outside (kept least) (kept most) (getD list k (pos 0)) ≡ true → OutsideBy list least most number (Refuse number k)
-    refused h e = by-plain (Refuse number k) (offender-first number (length list) k _ h inside e)
+    told : k < length list → outside (kept least) (kept most) (getD list k (pos 0)) ≡ true → refuse number k ≡ offender (rangeRow list least most number)
+    told h e = by-plain (first-bad (rangeRow list (kept least) (kept most) number) k h inside e)
 
-    pub all-inside : length list ≤ k → OutsideBy list least most number Pass
-    all-inside h = by-plain Pass (offender-none number (length list) _ (λ j l. inside j (omega arith)))
+    pub all-inside : length list ≤ k → Pass ≡ offender (rangeRow list least most number)
+    all-inside h = by-plain (none-bad (rangeRow list (kept least) (kept most) number) (λ j l. inside j (omega arith)))
 
     module _ (small : mag (getD list k (pos 0)) < 2 ^ 63) where
-      pub below-refused : k < length list → ltZ (kept (getD list k (pos 0))) (kept least) ≡ true → OutsideBy list least most number (Refuse number k)
-      below-refused h e = refused h (read-below (getD list k (pos 0)) (kept least) (kept most) small e)
+      pub below-refused : k < length list → ltZ (kept (getD list k (pos 0))) (kept least) ≡ true → refuse number k ≡ offender (rangeRow list least most number)
+      below-refused h e = told h (read-below (getD list k (pos 0)) (kept least) (kept most) small e)
 
-      pub above-refused : k < length list → ltZ (kept (getD list k (pos 0))) (kept least) ≡ false → ltZ (kept most) (kept (getD list k (pos 0))) ≡ true → OutsideBy list least most number (Refuse number k)
-      above-refused h e f = refused h (read-above (getD list k (pos 0)) (kept least) (kept most) small e f)
+      pub above-refused : k < length list → ltZ (kept (getD list k (pos 0))) (kept least) ≡ false → ltZ (kept most) (kept (getD list k (pos 0))) ≡ true → refuse number k ≡ offender (rangeRow list least most number)
+      above-refused h e f = told h (read-above (getD list k (pos 0)) (kept least) (kept most) small e f)
 
       pub inside-more : ltZ (kept (getD list k (pos 0))) (kept least) ≡ false → ltZ (kept most) (kept (getD list k (pos 0))) ≡ false → Inside list (kept least) (kept most) (k + 1)
       inside-more e f = below-more _ k inside (read-inside (getD list k (pos 0)) (kept least) (kept most) small e f)
@@ -98,101 +108,85 @@ module _ (list : List ℤ) (least most : ℤ) (number : ℕ) (low : SFits w64 le
 
 -- the first k gaps join labels of the sheet
 abbrev pub Known : ℕ → (left right : List ℕ) → ℕ → Type 0
-Known labels left right k = (j : ℕ) → j < k → strange labels left right j ≡ false
+Known labels left right k = (j : ℕ) → j < k → strangerRow labels left right .bad j ≡ false
 
 -- at the gap k, after gaps that are known
 module _ (labels : ℕ) (left right : List ℕ) (k : ℕ) (known : Known labels left right k) where
-  pub left-refused : k < length left → labels ≤ getD left k 0 → StrangerBy labels left right (Refuse 7 k)
-  left-refused h l = offender-first 7 (length left) k _ h known (rw (le-ltb (getD left k 0) labels l))
+  pub left-refused : k < length left → labels ≤ getD left k 0 → refuse 7 k ≡ offender (strangerRow labels left right)
+  left-refused h l = first-bad (strangerRow labels left right) k h known (rw (le-ltb (getD left k 0) labels l))
 
-  pub right-refused : k < length left → getD left k 0 < labels → labels ≤ getD right k 0 → StrangerBy labels left right (Refuse 7 k)
-  right-refused h l r = offender-first 7 (length left) k _ h known (rw (lt-ltb (getD left k 0) labels l, le-ltb (getD right k 0) labels r))
+  pub right-refused : k < length left → getD left k 0 < labels → labels ≤ getD right k 0 → refuse 7 k ≡ offender (strangerRow labels left right)
+  right-refused h l r = first-bad (strangerRow labels left right) k h known (rw (lt-ltb (getD left k 0) labels l, le-ltb (getD right k 0) labels r))
 
   pub known-more : getD left k 0 < labels → getD right k 0 < labels → Known labels left right (k + 1)
   known-more l r = below-more _ k known (rw (lt-ltb (getD left k 0) labels l, lt-ltb (getD right k 0) labels r))
 
-  pub all-known : length left ≤ k → StrangerBy labels left right Pass
-  all-known h = offender-none 7 (length left) _ (λ j l. known j (omega arith))
+  pub all-known : length left ≤ k → Pass ≡ offender (strangerRow labels left right)
+  all-known h = none-bad (strangerRow labels left right) (λ j l. known j (omega arith))
 
 -- ---- one check after another
 
 -- a refusal ends the checks
-pub ends : (r : Checked) {number place : ℕ} → r ≡ Refuse number place → (later : Verdict) → verdictOf r ≡ onward r later
-ends r e later = rw e
+pub ends : {r c : Checked} {q : Refusal} (later : Checked) → r ≡ Refused q → r ≡ c → r ≡ firstOf c later
+ends later e f = e ∙ ap (λ (x : Checked). firstOf x later) (sym e ∙ f)
 
 -- a pass goes on to the later ones
-pub goes-on : (r : Checked) → r ≡ Pass → (later : Verdict) → later ≡ onward r later
-goes-on r e later = rw e
+pub goes-on : {r c d : Checked} (later : Checked) → r ≡ Pass → r ≡ c → d ≡ later → d ≡ firstOf c later
+goes-on later e f g = g ∙ ap (λ (x : Checked). firstOf x later) (sym e ∙ f)
 
-pub alone : (r : Checked) → verdictOf r ≡ onward r pass
+-- the last
+pub alone : (c : Checked) → c ≡ firstOf c Pass
 alone Pass = refl
-alone (Refuse number place) = refl
+alone (Refused q) = refl
 
--- ---- checks 5 to 8
+first-of-first : (a b c : Checked) → firstOf a (firstOf b c) ≡ firstOf (firstOf a b) c
+first-of-first Pass b c = refl
+first-of-first (Refused q) b c = refl
 
-module _ (wanted weight : List ℤ) (left right : List ℕ) (distance : List ℤ) (even : Even wanted weight left right distance) where
-  abbrev eight : Verdict
-  eight = offender 8 (length left) (λ k. outside (negℤ (pos distanceMost)) (pos distanceMost) (getD distance k (pos 0))) pass
+-- some checks, and then others
+turns : (cs ds : List Checked) → inTurn (cs ++ ds) ≡ firstOf (inTurn cs) (inTurn ds)
+turns [] ds = refl
+turns (c ∷ cs) ds = ap (firstOf c) (turns cs ds) ∙ first-of-first c (inTurn cs) (inTurn ds)
 
-  abbrev seven : Verdict
-  seven = offender 7 (length left) (strange (length wanted) left right) eight
+-- ---- the checks of a sheet
 
-  abbrev six : Verdict
-  six = offender 6 (length wanted) (λ k. outside (pos weightLeast) (pos weightMost) (getD weight k (pos 0))) seven
+-- the three lists as a sheet is read
+abbrev pub readOf : (wanted weight : List ℤ) (left right : List ℕ) (distance : List ℤ) → Read
+readOf wanted weight left right distance = record { wanted = wanted; weight = weight; gaps = lists left right distance }
 
-  module _ (plate : Checked) (by5 : OutsideBy wanted (negℤ (pos wantedMost)) (pos wantedMost) 5 plate) where
-    pub ends-5 : {number place : ℕ} → plate ≡ Refuse number place → ContentsBy wanted weight left right distance plate
-    ends-5 e = ends plate e six ∙ by5 six
+module _ (wanted weight : List ℤ) (left right : List ℕ) (distance : List ℤ) where
+  abbrev sheet : Read
+  sheet = readOf wanted weight left right distance
 
-    module _ (passed5 : plate ≡ Pass) (weights : Checked) (by6 : OutsideBy weight (pos weightLeast) (pos weightMost) 6 weights) where
-      -- from check 6 on
-      from-6 : {v : Verdict} → v ≡ onward weights seven → v ≡ contentsOf wanted weight left right distance
-      from-6 e = e ∙ by6 seven ∙ rw (even .weights) (goes-on plate passed5 six ∙ by5 six)
+  -- 3, from the sizes alone
+  abbrev pub raggedly : ℕ → Bool
+  raggedly carried = raggedSizes (length wanted) (length left) (length weight) (length right) (length distance) carried
 
-      pub ends-6 : {number place : ℕ} → weights ≡ Refuse number place → ContentsBy wanted weight left right distance weights
-      ends-6 e = from-6 (ends weights e seven)
-
-      module _ (passed6 : weights ≡ Pass) (strangers : Checked) (by7 : StrangerBy (length wanted) left right strangers) where
-        pub ends-7 : {number place : ℕ} → strangers ≡ Refuse number place → ContentsBy wanted weight left right distance strangers
-        ends-7 e = from-6 (ends strangers e eight ∙ by7 eight ∙ goes-on weights passed6 seven)
-
-        pub ends-8 : strangers ≡ Pass → (r : Checked) → OutsideBy distance (negℤ (pos distanceMost)) (pos distanceMost) 8 r → ContentsBy wanted weight left right distance r
-        ends-8 passed7 r by8 = from-6 (alone r ∙ by8 pass ∙ rw (even .distances) (goes-on strangers passed7 eight ∙ by7 eight ∙ goes-on weights passed6 seven))
-
--- ---- all checks
-
--- the tests of check 3
-none-of : (a b c d : Bool) → (a || (b || c) || d) ≡ false → (a ≡ false) × (b ≡ false) × (c ≡ false)
-none-of a b c d e =
-    let first = or-clear (a || (b || c)) d e in
-    let second = or-clear a (b || c) (first .0) in
-    let third = or-clear b c (second .1) in
-    (second .0, third .0, third .1)
-
-equal-of-test : (a b : ℕ) → unequal a b ≡ false → a ≡ b
-equal-of-test a b e = eqb-true a b (not-false (eqb a b) e)
-
-module _ (wanted weight : List ℤ) (left right : List ℕ) (distance : List ℤ) (room : Room) (first : Checked)
-    (by : SizedBy (length wanted) (length left) (length weight) (length right) (length distance) room first) where
   -- the table is the sizes' checks, and then the contents'
-  sized : (w : Written) → Sizes w room → onward first (contentsOf wanted weight left right distance) ≡ table (record { wanted = wanted; weight = weight; gaps = lists left right distance }) w
-  unfolding table
-  sized w k = rw (k .places, k .place-dens, k .multipliers, k .multiplier-dens, k .ring, k .carried) (by (contentsOf wanted weight left right distance))
+  pub table-parts : (room : Room)
+      → firstOf (inTurn (sizeTests (length wanted) (length left) (raggedly (room .carried)) (short (length wanted) (length left) room))) (contentsOf sheet)
+      ≡ tableFor sheet room
+  unfolding tableOf
+  table-parts room =
+      sym (turns (sizeTests (length wanted) (length left) (raggedly (room .carried)) (short (length wanted) (length left) room)) (map offender (rows sheet)))
 
-  pub sizes-end : {number place : ℕ} → first ≡ Refuse number place → CheckedBy wanted weight left right distance room first
-  sizes-end e w k = ends first e (contentsOf wanted weight left right distance) ∙ sized w k
-
-  pub contents-end : first ≡ Pass → (r : Checked) → ContentsBy wanted weight left right distance r → CheckedBy wanted weight left right distance room r
-  contents-end e r contents w k = contents ∙ goes-on first e (contentsOf wanted weight left right distance) ∙ sized w k
-
-  pub passed-even : first ≡ Pass → Even wanted weight left right distance
-  passed-even e =
-      let c1 = check-pass 1 0 _ (ltb labelsMost (length wanted)) (sym (goes-on first e pass ∙ by pass)) in
-      let c2 = check-pass 2 0 _ (ltb gapsMost (length left)) (c1 .1) in
-      let c3 = check-pass 3 0 (shortOf (length wanted) (length left) room pass) (unequal (length weight) (length wanted) || (unequal (length right) (length left) || unequal (length distance) (length left)) || unequal (room .carried) (length left)) (c2 .1) in
-      let clear = none-of (unequal (length weight) (length wanted)) (unequal (length right) (length left)) (unequal (length distance) (length left)) (unequal (room .carried) (length left)) (c3 .0) in
+  -- lists that are not ragged belong together
+  pub sized-even : (carried : ℕ) (short : Bool) → Pass ≡ inTurn (sizeTests (length wanted) (length left) (raggedly carried) short) → Even wanted weight left right distance
+  sized-even carried short e =
+      let clear = test-pass 3 (raggedly carried) (turn-pass (sizeTests (length wanted) (length left) (raggedly carried) short) (sym e) .1 .1 .0) in
+      let first = or-clear (unequal (length weight) (length wanted) || (unequal (length right) (length left) || unequal (length distance) (length left))) (unequal carried (length left)) clear in
+      let second = or-clear (unequal (length weight) (length wanted)) (unequal (length right) (length left) || unequal (length distance) (length left)) (first .0) in
+      let third = or-clear (unequal (length right) (length left)) (unequal (length distance) (length left)) (second .1) in
       record {
-        weights = equal-of-test (length weight) (length wanted) (clear .0);
-        rights = equal-of-test (length right) (length left) (clear .1);
-        distances = equal-of-test (length distance) (length left) (clear .2);
+        weights = same-of-not (length weight) (length wanted) (second .0);
+        rights = same-of-not (length right) (length left) (third .0);
+        distances = same-of-not (length distance) (length left) (third .1);
       }
+
+  -- lists of one length are counted alike
+  module _ (even : Even wanted weight left right distance) where
+    pub weights-counted : offender (rangeRow weight (pos weightLeast) (pos weightMost) 6) ≡ offender (badWeight sheet)
+    weights-counted = ap (λ n. offenderBelow 6 n (badWeight sheet .bad)) (even .weights)
+
+    pub distances-counted : offender (rangeRow distance (negℤ (pos distanceMost)) (pos distanceMost) 8) ≡ offender (badGap sheet)
+    distances-counted = ap (λ n. offenderBelow 8 n (badGap sheet .bad)) (even .distances)

@@ -1,78 +1,101 @@
 -- What a passed table tells of the sheet.
 use Prim.Native.Nat.{ℕ, zero, suc, _≤_, _<_}
-use mathlib.Core.Path.{_≡_, refl}
+use mathlib.Core.Path.{_≡_, refl, ap₂}
+use mathlib.Core.Logic.{⊎-elim}
 use mathlib.Core.Bool.{Bool, true, false, cond, not, _||_}
+use mathlib.Core.List.{List, [], _∷_, _++_, map}
 use native.Mathlib.Omega.{arith}
-use lib.Dec.{ltb}
-use lib.ListN.{getD}
+use lib.Dec.{eqb, ltb}
+use lib.ListN.{length, getD}
 use lib.IntN.{ℤ, pos, negsuc}
 use lib.Signed.{_<ℤ_}
-use borrow.Author.Tests.{ltb-true, ltb-false, not-false}
+use borrow.Author.Tests.{ltb-true, ltb-false, eqb-true, not-false}
+use Rattle.algebra.proofs.Sum.{last-or-below}
 use Rattle.algebra.proofs.Whole.{parts-lt}
 use Rattle.least_move.specs.Sheet.{Proper}
+use Rattle.ground.specs.declared.Refusal.{Refusal}
+use Rattle.ground.specs.Entries.{Each}
 use Rattle.ground.specs.Limits.{gapsMost, labelsMost, weightLeast, weightMost}
+use Rattle.sheet_checks.specs.declared.Checked.{Checked}
+use Rattle.sheet_checks.specs.declared.Checked.the-variants.{Pass, Refused}
 use Rattle.sheet_checks.specs.Lent.{Read, Written, labelCount, gapCount, recordAt, sheetOf}
-use Rattle.sheet_checks.specs.Refusals.{Verdict, refuse, pass, offender, outside, ragged, short, offPlate, badWeight, stranger, badGap, table}
+use Rattle.sheet_checks.specs.Refusals.{Row, refuse, firstOf, inTurn, test, offenderBelow, offender, sizeTests, tableOf, unequal, outside, roomOf, ragged, short, offPlate, badWeight, stranger, badGap, rows, table}
 
 -- a refusal is no pass
-not-pass : {number place : ℕ} → refuse number place ≡ pass → ⊥
+not-pass : {q : Refusal} → Refused q ≡ Pass → ⊥
 not-pass e = let z : _≡_ {A = ℕ} 0 1 = cc in omega arith
 
--- a check that passed: its test was false, and the later checks passed
-pub check-pass : (number place : ℕ) (later : Verdict) (bad : Bool) → cond bad (refuse number place) later ≡ pass → (bad ≡ false) × (later ≡ pass)
-check-pass number place later true e = absurd (not-pass e)
-check-pass number place later false e = (refl, e)
+-- a test that passed was false
+pub test-pass : (number : ℕ) (bad : Bool) → test number bad ≡ Pass → bad ≡ false
+test-pass number true e = absurd (not-pass e)
+test-pass number false e = refl
 
--- a check of n entries that passed: none of them is bad, and the later checks passed
-pub offender-pass : (number n : ℕ) (bad : ℕ → Bool) (later : Verdict) → offender number n bad later ≡ pass → ((k : ℕ) → k < n → bad k ≡ false) × (later ≡ pass)
-unfolding offender
-offender-pass number zero bad later e = ((λ k h. absurd (omega arith)), e)
-offender-pass number (suc n) bad later e =
-    let before : ((k : ℕ) → k < n → bad k ≡ false) × (cond (bad n) (refuse number n) later ≡ pass) = offender-pass number n bad (cond (bad n) (refuse number n) later) e in
-    let last : (bad n ≡ false) × (later ≡ pass) = check-pass number n later (bad n) (before .1) in
-    ((λ k h. go (before .0) (last .0) k h (ltb k n) refl), last .1)
+-- of two checks that passed each did
+pub first-pass : (c later : Checked) → firstOf c later ≡ Pass → (c ≡ Pass) × (later ≡ Pass)
+first-pass Pass later e = (refl, e)
+first-pass (Refused q) later e = absurd (not-pass e)
+
+-- and so of all
+pub turn-pass : (cs : List Checked) → inTurn cs ≡ Pass → Each (λ c. c ≡ Pass) cs
+turn-pass [] e = tt
+turn-pass (c ∷ cs) e = let both = first-pass c (inTurn cs) e in (both .0, turn-pass cs (both .1))
+
+-- a row that passed: none of its entries is bad
+pub offender-pass : (row : Row) → offender row ≡ Pass → (k : ℕ) → k < row .count → row .bad k ≡ false
+unfolding offenderBelow
+offender-pass row e = go (row .count) e
   where
-    go : ((k : ℕ) → k < n → bad k ≡ false) → bad n ≡ false → (k : ℕ) → k < suc n → (t : Bool) → ltb k n ≡ t → bad k ≡ false
-    go below last k h true t = below k (ltb-true k n t)
-    go below last k h false t =
-        let same : k ≡ n = omega (arith, ltb-false k n t) in
-        rw same last
+    last : (n : ℕ) → cond (row .bad n) (refuse (row .number) n) Pass ≡ Pass → row .bad n ≡ false
+    last n = at (row .bad n)
+      where
+        at : (b : Bool) → cond b (refuse (row .number) n) Pass ≡ Pass → b ≡ false
+        at true f = absurd (not-pass f)
+        at false f = refl
+
+    go : (n : ℕ) → offenderBelow (row .number) n (row .bad) ≡ Pass → (k : ℕ) → k < n → row .bad k ≡ false
+    go zero f k h = absurd (omega arith)
+    go (suc n) f k h =
+        let both = first-pass (offenderBelow (row .number) n (row .bad)) (cond (row .bad n) (refuse (row .number) n) Pass) f in
+        ⊎-elim (λ same. rw same (last n (both .1))) (λ below. go n (both .0) k below) (last-or-below k n h)
+
+-- rows whose entries are bad alike find the same
+pub offender-same : (number : ℕ) (bad bad′ : ℕ → Bool) (n : ℕ) → ((k : ℕ) → k < n → bad k ≡ bad′ k) → offenderBelow number n bad ≡ offenderBelow number n bad′
+unfolding offenderBelow
+offender-same number bad bad′ zero same = refl
+offender-same number bad bad′ (suc n) same =
+    ap₂ (λ (c : Checked) (b : Bool). firstOf c (cond b (refuse number n) Pass)) (offender-same number bad bad′ n (λ k h. same k (omega arith))) (same n (omega arith))
 
 pub or-clear : (a b : Bool) → (a || b) ≡ false → (a ≡ false) × (b ≡ false)
 or-clear true b e = absurd (let z : _≡_ {A = ℕ} 0 1 = cc in omega arith)
 or-clear false b e = (refl, e)
 
--- the table passed: every check's test was false
+pub same-of-not : (a b : ℕ) → unequal a b ≡ false → a ≡ b
+same-of-not a b e = eqb-true a b (not-false (eqb a b) e)
+
+-- the table passed: every check's test was false, and no row has an offender
 pub record Passed (r : Read) (w : Written) : Type 0 where
   pub few-labels : labelCount r ≤ labelsMost
   pub few-gaps : gapCount r ≤ gapsMost
-  pub even : ragged r w ≡ false
-  pub room : short r w ≡ false
-  pub on-plate : (k : ℕ) → k < labelCount r → offPlate r k ≡ false
-  pub weighed : (k : ℕ) → k < labelCount r → badWeight r k ≡ false
-  pub known : (k : ℕ) → k < gapCount r → stranger r k ≡ false
-  pub measured : (k : ℕ) → k < gapCount r → badGap r k ≡ false
+  pub even : ragged r (length (w .carried)) ≡ false
+  pub room : short (labelCount r) (gapCount r) (roomOf w) ≡ false
+  pub on-plate : (k : ℕ) → k < labelCount r → offPlate r .bad k ≡ false
+  pub weighed : (k : ℕ) → k < labelCount r → badWeight r .bad k ≡ false
+  pub known : (k : ℕ) → k < gapCount r → stranger r .bad k ≡ false
+  pub measured : (k : ℕ) → k < gapCount r → badGap r .bad k ≡ false
 
-pub table-passed : (r : Read) (w : Written) → table r w ≡ pass → Passed r w
-unfolding table
+pub table-passed : (r : Read) (w : Written) → table r w ≡ Pass → Passed r w
+unfolding tableOf
 table-passed r w e =
-    let c1 = check-pass 1 0 _ (ltb labelsMost (labelCount r)) e in
-    let c2 = check-pass 2 0 _ (ltb gapsMost (gapCount r)) (c1 .1) in
-    let c3 = check-pass 3 0 _ (ragged r w) (c2 .1) in
-    let c4 = check-pass 4 0 _ (short r w) (c3 .1) in
-    let c5 = offender-pass 5 (labelCount r) (offPlate r) _ (c4 .1) in
-    let c6 = offender-pass 6 (labelCount r) (badWeight r) _ (c5 .1) in
-    let c7 = offender-pass 7 (gapCount r) (stranger r) _ (c6 .1) in
-    let c8 = offender-pass 8 (gapCount r) (badGap r) pass (c7 .1) in
+    let c = turn-pass (sizeTests (labelCount r) (gapCount r) (ragged r (length (w .carried))) (short (labelCount r) (gapCount r) (roomOf w)) ++ map offender (rows r)) e in
     record {
-      few-labels = ltb-false labelsMost (labelCount r) (c1 .0);
-      few-gaps = ltb-false gapsMost (gapCount r) (c2 .0);
-      even = c3 .0;
-      room = c4 .0;
-      on-plate = c5 .0;
-      weighed = c6 .0;
-      known = c7 .0;
-      measured = c8 .0;
+      few-labels = ltb-false labelsMost (labelCount r) (test-pass 1 (ltb labelsMost (labelCount r)) (c .0));
+      few-gaps = ltb-false gapsMost (gapCount r) (test-pass 2 (ltb gapsMost (gapCount r)) (c .1 .0));
+      even = test-pass 3 (ragged r (length (w .carried))) (c .1 .1 .0);
+      room = test-pass 4 (short (labelCount r) (gapCount r) (roomOf w)) (c .1 .1 .1 .0);
+      on-plate = offender-pass (offPlate r) (c .1 .1 .1 .1 .0);
+      weighed = offender-pass (badWeight r) (c .1 .1 .1 .1 .1 .0);
+      known = offender-pass (stranger r) (c .1 .1 .1 .1 .1 .1 .0);
+      measured = offender-pass (badGap r) (c .1 .1 .1 .1 .1 .1 .1 .0);
     }
 
 -- a weight in its range is above zero
@@ -88,7 +111,7 @@ ends-in u v n e =
     (ltb-true u n (not-false (ltb u n) (clear .0)), ltb-true v n (not-false (ltb v n) (clear .1)))
 
 -- checks 6 and 7 passed: the sheet is proper
-pub passed-proper : (r : Read) (w : Written) → table r w ≡ pass → Proper (sheetOf r)
+pub passed-proper : (r : Read) (w : Written) → table r w ≡ Pass → Proper (sheetOf r)
 unfolding sheetOf
 passed-proper r w e =
     let passed : Passed r w = table-passed r w e in

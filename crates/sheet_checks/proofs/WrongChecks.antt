@@ -8,7 +8,8 @@ use lib.IntN.{ℤ, pos, negℤ}
 use Rattle.ground.specs.Limits.{distanceMost, wantedMost, weightMost}
 use Rattle.ground.specs.Entries.{noRecord}
 use Rattle.sheet_checks.specs.Lent.{LentGaps, Read, Written, lists, records}
-use Rattle.sheet_checks.specs.Refusals.{refuse, pass, offender, table}
+use Rattle.sheet_checks.specs.Refusals.{refuse, offenderBelow, tableOf, table}
+use Rattle.sheet_checks.specs.declared.Checked.the-variants.{Pass}
 
 -- ---- sheets, and what is lent to write
 
@@ -39,47 +40,47 @@ abbrev weights : List ℤ
 weights = pos 1 ∷ pos 1 ∷ []
 
 -- and a gap between them
-right-sheet : table (lent wants weights (0 ∷ []) (1 ∷ []) (pos 10 ∷ [])) (room 2 1 2) ≡ pass
-unfolding table offender
+right-sheet : table (lent wants weights (0 ∷ []) (1 ∷ []) (pos 10 ∷ [])) (room 2 1 2) ≡ Pass
+unfolding tableOf offenderBelow
 right-sheet = refl
 
 -- ---- one fault
 
 labels-49 : table (lent (many 49 (pos 0)) (many 49 (pos 1)) [] [] []) (room 49 0 49) ≡ refuse 1 0
-unfolding table offender
+unfolding tableOf offenderBelow
 labels-49 = refl
 
 -- the ring buffer is held to the label count
 ring-short : table (lent wants weights (0 ∷ []) (1 ∷ []) (pos 10 ∷ [])) (room 2 1 1) ≡ refuse 4 0
-unfolding table offender
+unfolding tableOf offenderBelow
 ring-short = refl
 
 -- one unit off the plate, on either side
 off-plate-right : table (lent (pos 0 ∷ pos (wantedMost + 1) ∷ []) weights [] [] []) (room 2 0 2) ≡ refuse 5 1
-unfolding table offender
+unfolding tableOf offenderBelow
 off-plate-right = refl
 
 off-plate-left : table (lent (pos 0 ∷ negℤ (pos (wantedMost + 1)) ∷ []) weights [] [] []) (room 2 0 2) ≡ refuse 5 1
-unfolding table offender
+unfolding tableOf offenderBelow
 off-plate-left = refl
 
 -- an end that equals the label count is no label
 left-stranger : table (lent wants weights (2 ∷ []) (1 ∷ []) (pos 10 ∷ [])) (room 2 1 2) ≡ refuse 7 0
-unfolding table offender
+unfolding tableOf offenderBelow
 left-stranger = refl
 
 right-stranger : table (lent wants weights (0 ∷ []) (2 ∷ []) (pos 10 ∷ [])) (room 2 1 2) ≡ refuse 7 0
-unfolding table offender
+unfolding tableOf offenderBelow
 right-stranger = refl
 
 -- a sheet of no labels has no gap
 no-labels : table (lent [] [] (0 ∷ []) (0 ∷ []) (pos 0 ∷ [])) (room 0 1 0) ≡ refuse 7 0
-unfolding table offender
+unfolding tableOf offenderBelow
 no-labels = refl
 
 -- a gap one unit below its limit
 gap-low : table (lent wants weights (0 ∷ []) (1 ∷ []) (negℤ (pos (distanceMost + 1)) ∷ [])) (room 2 1 2) ≡ refuse 8 0
-unfolding table offender
+unfolding tableOf offenderBelow
 gap-low = refl
 
 -- ---- two faults: the lower number is told
@@ -89,19 +90,19 @@ abbrev crowd : LentGaps → Read
 crowd gaps = record { wanted = many 49 (pos 0); weight = many 49 (pos 1); gaps = gaps }
 
 crowded-before-over-gapped : table (crowd (lists (many 193 0) (many 193 1) (many 193 (pos 10)))) (room 49 193 49) ≡ refuse 1 0
-unfolding table offender
+unfolding tableOf offenderBelow
 crowded-before-over-gapped = refl
 
 crowded-before-over-gapped-records : table (crowd (records (many 193 noRecord))) (room 49 193 49) ≡ refuse 1 0
-unfolding table offender
+unfolding tableOf offenderBelow
 crowded-before-over-gapped-records = refl
 
 -- label 1 is off the plate, and label 0 weighs too little
 place-before-weight : table (lent (pos 0 ∷ pos (wantedMost + 1) ∷ []) (pos 0 ∷ pos 1 ∷ []) [] [] []) (room 2 0 2) ≡ refuse 5 1
-unfolding table offender
+unfolding tableOf offenderBelow
 place-before-weight = refl
 
 -- label 1 weighs too much, and gap 0 joins a stranger
 weight-before-stranger : table (lent wants (pos 1 ∷ pos (weightMost + 1) ∷ []) (0 ∷ []) (2 ∷ []) (pos 10 ∷ [])) (room 2 1 2) ≡ refuse 6 1
-unfolding table offender
+unfolding tableOf offenderBelow
 weight-before-stranger = refl

@@ -2,34 +2,90 @@
 -- What it decides is 1 to 8; 9 is tied to the absence of a placement in Promise.
 use Prim.Native.Nat.{ℕ, zero, suc}
 use mathlib.Core.Bool.{Bool, false, cond, not, _||_}
+use mathlib.Core.List.{List, [], _∷_, _++_, map}
 use lib.Dec.{ltb, eqb}
 use lib.ListN.{length}
 use lib.IntN.{ℤ, pos, negℤ}
 use lib.Signed.{ltZ}
+use Rattle.sheet_checks.specs.declared.Checked.{Checked}
+use Rattle.sheet_checks.specs.declared.Checked.the-variants.{Pass, Refused}
+use Rattle.sheet_checks.specs.declared.check.Room.{Room}
 use Rattle.sheet_checks.specs.Lent.{Read, Written, LentGaps, lists, records, labelCount, gapCount, recordAt}
+use Rattle.ground.specs.Answers.{refusedAt}
 use Rattle.ground.specs.Entries.{int}
 use Rattle.ground.specs.Limits.{distanceMost, gapsMost, labelsMost, wantedMost, weightLeast, weightMost}
 
--- what the checks find: a number and its place, or nothing to refuse
-pub data Verdict : Type 0 where
-  refuse : (number place : ℕ) → Verdict
-  pass : Verdict
+-- ---- what a check answers
 
--- "the place is the first offender": the first of n that is bad, else what the later checks find
-unfoldable pub offender : ℕ → ℕ → (ℕ → Bool) → Verdict → Verdict
-offender number zero bad later = later
-offender number (suc n) bad later = offender number n bad (cond (bad n) (refuse number n) later)
+-- document 01's number for each case of a check's answer, and its place: each 0 where it passes
+abbrev pub numberOf : Checked → ℕ
+numberOf Pass = 0
+numberOf (Refused r) = r .number
+
+abbrev pub placeOf : Checked → ℕ
+placeOf Pass = 0
+placeOf (Refused r) = r .place
+
+-- "refused with its number and its place"
+abbrev pub refuse : (number place : ℕ) → Checked
+refuse number place = Refused (refusedAt number place)
+
+-- of two checks the first that refuses
+abbrev pub firstOf : Checked → Checked → Checked
+firstOf Pass later = later
+firstOf (Refused r) later = Refused r
+
+-- "Checks run in this order .. by number, each over the whole sheet before the next"
+abbrev pub inTurn : List Checked → Checked
+inTurn [] = Pass
+inTurn (c ∷ later) = firstOf c (inTurn later)
 
 -- a check whose place is 0
-abbrev pub check : ℕ → Bool → Verdict → Verdict
-check number bad later = cond bad (refuse number 0) later
+abbrev pub test : ℕ → Bool → Checked
+test number bad = cond bad (refuse number 0) Pass
+
+-- a check of each label or gap: its number, how many there are, and which of them are bad
+pub record Row : Type 0 where
+  pub number : ℕ
+  pub count : ℕ
+  pub bad : ℕ → Bool
+
+-- "the place is the first offender": the first of n that is bad
+unfoldable pub offenderBelow : (number n : ℕ) → (ℕ → Bool) → Checked
+offenderBelow number zero bad = Pass
+offenderBelow number (suc n) bad = firstOf (offenderBelow number n bad) (cond (bad n) (refuse number n) Pass)
+
+abbrev pub offender : Row → Checked
+offender row = offenderBelow (row .number) (row .count) (row .bad)
+
+-- 1 and 2, from the counts; 3 and 4, as they are met
+abbrev pub sizeTests : (labels gaps : ℕ) (ragged short : Bool) → List Checked
+sizeTests labels gaps ragged short =
+    test 1 (ltb labelsMost labels) ∷ test 2 (ltb gapsMost gaps) ∷ test 3 ragged ∷ test 4 short ∷ []
+
+-- then the rows: the table of every entry that is lent a sheet
+unfoldable pub tableOf : (labels gaps : ℕ) (ragged short : Bool) → List Row → Checked
+tableOf labels gaps ragged short rows = inTurn (sizeTests labels gaps ragged short ++ map offender rows)
+
+-- ---- when each check is met
+
+abbrev pub unequal : ℕ → ℕ → Bool
+unequal a b = not (eqb a b)
 
 -- outside a range from least to most
 abbrev pub outside : ℤ → ℤ → ℤ → Bool
 outside least most z = ltZ z least || ltZ most z
 
-abbrev pub unequal : ℕ → ℕ → Bool
-unequal a b = not (eqb a b)
+-- the sizes of what is lent to write
+abbrev pub roomOf : Written → Room
+roomOf w = record {
+  places = length (w .place-num);
+  «place_dens» = length (w .place-den);
+  multipliers = length (w .mult-num);
+  «multiplier_dens» = length (w .mult-den);
+  ring = length (w .ring);
+  carried = length (w .carried);
+}
 
 -- 3 "lists that belong together differ in length:
 -- places with weights, the three gap lists, the carried record with the gaps"
@@ -37,39 +93,52 @@ abbrev pub uneven : LentGaps → Bool
 uneven (lists l r g) = unequal (length r) (length l) || unequal (length g) (length l)
 uneven (records gs) = false
 
-abbrev pub ragged : Read → Written → Bool
-ragged r w =
-    unequal (length (r .weight)) (labelCount r) || uneven (r .gaps) || unequal (length (w .carried)) (gapCount r)
+abbrev pub ragged : Read → (carried : ℕ) → Bool
+ragged r carried = unequal (length (r .weight)) (labelCount r) || uneven (r .gaps) || unequal carried (gapCount r)
 
 -- 4 "a place or ring buffer below the label count, or a multiplier buffer below the gap count"
-abbrev pub short : Read → Written → Bool
-short r w =
-    ltb (length (w .place-num)) (labelCount r) || ltb (length (w .place-den)) (labelCount r)
-    || ltb (length (w .ring)) (labelCount r)
-    || ltb (length (w .mult-num)) (gapCount r) || ltb (length (w .mult-den)) (gapCount r)
+abbrev pub short : (labels gaps : ℕ) → Room → Bool
+short labels gaps room =
+    ltb (room .places) labels || ltb (room .«place_dens») labels || ltb (room .ring) labels
+    || ltb (room .multipliers) gaps || ltb (room .«multiplier_dens») gaps
 
--- 5 to 8, of one label or gap
-abbrev pub offPlate : Read → ℕ → Bool
-offPlate r k = outside (negℤ (pos wantedMost)) (pos wantedMost) (int (r .wanted) k)
+-- 5 "wanted place outside its range", 6 "weight outside its range"
+abbrev pub offPlate : Read → Row
+offPlate r = record {
+  number = 5;
+  count = labelCount r;
+  bad = λ k. outside (negℤ (pos wantedMost)) (pos wantedMost) (int (r .wanted) k);
+}
 
-abbrev pub badWeight : Read → ℕ → Bool
-badWeight r k = outside (pos weightLeast) (pos weightMost) (int (r .weight) k)
+abbrev pub badWeight : Read → Row
+badWeight r = record {
+  number = 6;
+  count = labelCount r;
+  bad = λ k. outside (pos weightLeast) (pos weightMost) (int (r .weight) k);
+}
 
-abbrev pub stranger : Read → ℕ → Bool
-stranger r k =
-    not (ltb (recordAt (r .gaps) k .left) (labelCount r)) || not (ltb (recordAt (r .gaps) k .right) (labelCount r))
+-- 7 "left or right is no label of the sheet", 8 "gap outside its range"
+abbrev pub stranger : Read → Row
+stranger r = record {
+  number = 7;
+  count = gapCount r;
+  bad = λ k. not (ltb (recordAt (r .gaps) k .left) (labelCount r)) || not (ltb (recordAt (r .gaps) k .right) (labelCount r));
+}
 
-abbrev pub badGap : Read → ℕ → Bool
-badGap r k = outside (negℤ (pos distanceMost)) (pos distanceMost) (recordAt (r .gaps) k .distance)
+abbrev pub badGap : Read → Row
+badGap r = record {
+  number = 8;
+  count = gapCount r;
+  bad = λ k. outside (negℤ (pos distanceMost)) (pos distanceMost) (recordAt (r .gaps) k .distance);
+}
 
--- "Checks run in this order .. 1 to 9 by number, each over the whole sheet before the next"
-unfoldable pub table : Read → Written → Verdict
-table r w =
-    check 1 (ltb labelsMost (labelCount r))
-    (check 2 (ltb gapsMost (gapCount r))
-    (check 3 (ragged r w)
-    (check 4 (short r w)
-    (offender 5 (labelCount r) (offPlate r)
-    (offender 6 (labelCount r) (badWeight r)
-    (offender 7 (gapCount r) (stranger r)
-    (offender 8 (gapCount r) (badGap r) pass)))))))
+abbrev pub rows : Read → List Row
+rows r = offPlate r ∷ badWeight r ∷ stranger r ∷ badGap r ∷ []
+
+-- the table of a layout call, from the sizes of what it is lent to write
+abbrev pub tableFor : Read → Room → Checked
+tableFor r room =
+    tableOf (labelCount r) (gapCount r) (ragged r (room .carried)) (short (labelCount r) (gapCount r) room) (rows r)
+
+abbrev pub table : Read → Written → Checked
+table r w = tableFor r (roomOf w)

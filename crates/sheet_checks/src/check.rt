@@ -1,5 +1,6 @@
 // The checks of the refusal table, 1 to 8, each over the whole sheet before the next.
 use crate::Checked;
+use ground::Refusal;
 use ground::limits::DISTANCE_MOST;
 use ground::limits::GAPS;
 use ground::limits::LABELS;
@@ -8,7 +9,10 @@ use ground::limits::WEIGHT_LEAST;
 use ground::limits::WEIGHT_MOST;
 ghost use mathlib.Core.Path.{_≡_};
 ghost use lib.ListN.{length};
-ghost use Rattle.sheet_checks.specs.Checks.{CheckedBy, OutsideBy, StrangerBy, SizedBy, ShortBy, Even, ContentsBy};
+ghost use Rattle.sheet_checks.specs.Lent.{sheetLent};
+ghost use Rattle.sheet_checks.specs.Refusals.{inTurn, offender, refuse, sizeTests, tableFor};
+ghost use Rattle.sheet_checks.specs.Refusals.{short as shortRoom};
+ghost use Rattle.sheet_checks.specs.Checks.{Even, contentsOf, raggedSizes, rangeRow, strangerRow};
 ghost use Rattle.ground.specs.Views.{before};
 
 // The sizes of what is lent besides the lists that are read.
@@ -21,17 +25,28 @@ pub struct Room {
     pub carried: usize,
 }
 
+// A refusal; the checks know of no ring.
+fn refused(number: usize, place: usize) -> Checked
+    ensures { λ r. ⌜ r ≡ refuse number place ⌝ }
+{
+    Checked::Refused(Refusal {
+        number,
+        place,
+        ring: 0,
+    })
+}
+
 // The first number of the list outside the range from least to most, as a refusal of this number.
 fn first_outside(list: &[i64], least: i64, most: i64, number: usize) -> Checked
-    ensures { λ r. ⌜ OutsideBy (before list) least most number r ⌝ }
+    ensures { λ r. ⌜ r ≡ offender (rangeRow (before list) least most number) ⌝ }
 {
     let mut k: usize = 0;
     while k < list.len() {
         if list[k] < least {
-            return Checked::Refuse(number, k);
+            return refused(number, k);
         }
         if most < list[k] {
-            return Checked::Refuse(number, k);
+            return refused(number, k);
         }
         k += 1;
     }
@@ -41,71 +56,78 @@ fn first_outside(list: &[i64], least: i64, most: i64, number: usize) -> Checked
 // 7: the first gap of which an end is no label of the sheet.
 fn first_stranger(labels: usize, left: &[usize], right: &[usize]) -> Checked
     requires { ⌜ length (now right) ≡ length (now left) ⌝ }
-    ensures { λ r. ⌜ StrangerBy labels (before left) (before right) r ⌝ }
+    ensures { λ r. ⌜ r ≡ offender (strangerRow labels (before left) (before right)) ⌝ }
 {
     let mut gap: usize = 0;
     while gap < left.len() {
         if labels <= left[gap] {
-            return Checked::Refuse(7, gap);
+            return refused(7, gap);
         }
         if labels <= right[gap] {
-            return Checked::Refuse(7, gap);
+            return refused(7, gap);
         }
         gap += 1;
     }
     Checked::Pass
 }
 
-// 1 and 2: too many labels or gaps. 3: lists that belong together differ in length. 4: a buffer that is too short.
-fn sizes(
+// 3: lists that belong together differ in length.
+fn ragged(
     labels: usize,
     gaps: usize,
     weights: usize,
     rights: usize,
     distances: usize,
-    room: Room,
-) -> Checked
-    ensures { λ r. ⌜ SizedBy labels gaps weights rights distances room r ⌝ }
+    carried: usize,
+) -> bool
+    ensures { λ r. ⌜ r ≡ raggedSizes labels gaps weights rights distances carried ⌝ }
 {
-    if LABELS < labels {
-        return Checked::Refuse(1, 0);
-    }
-    if GAPS < gaps {
-        return Checked::Refuse(2, 0);
-    }
     if weights != labels {
-        return Checked::Refuse(3, 0);
+        return true;
     }
     if rights != gaps {
-        return Checked::Refuse(3, 0);
+        return true;
     }
     if distances != gaps {
-        return Checked::Refuse(3, 0);
+        return true;
     }
-    if room.carried != gaps {
-        return Checked::Refuse(3, 0);
-    }
-    short(labels, gaps, room)
+    carried != gaps
 }
 
-// 4 alone.
-fn short(labels: usize, gaps: usize, room: Room) -> Checked
-    ensures { λ r. ⌜ ShortBy labels gaps room r ⌝ }
+// 4: a buffer that is too short.
+fn short(labels: usize, gaps: usize, room: Room) -> bool
+    ensures { λ r. ⌜ r ≡ shortRoom labels gaps room ⌝ }
 {
     if room.places < labels {
-        return Checked::Refuse(4, 0);
+        return true;
     }
     if room.place_dens < labels {
-        return Checked::Refuse(4, 0);
+        return true;
     }
     if room.ring < labels {
-        return Checked::Refuse(4, 0);
+        return true;
     }
     if room.multipliers < gaps {
-        return Checked::Refuse(4, 0);
+        return true;
     }
-    if room.multiplier_dens < gaps {
-        return Checked::Refuse(4, 0);
+    room.multiplier_dens < gaps
+}
+
+// 1 and 2: too many labels or gaps; then 3 and 4, where they are met.
+fn sizes(labels: usize, gaps: usize, ragged: bool, short: bool) -> Checked
+    ensures { λ r. ⌜ r ≡ inTurn (sizeTests labels gaps ragged short) ⌝ }
+{
+    if LABELS < labels {
+        return refused(1, 0);
+    }
+    if GAPS < gaps {
+        return refused(2, 0);
+    }
+    if ragged {
+        return refused(3, 0);
+    }
+    if short {
+        return refused(4, 0);
     }
     Checked::Pass
 }
@@ -119,7 +141,7 @@ fn contents(
     distance: &[i64],
 ) -> Checked
     requires { ⌜ Even (now wanted) (now weight) (now left) (now right) (now distance) ⌝ }
-    ensures { λ r. ⌜ ContentsBy (before wanted) (before weight) (before left) (before right) (before distance) r ⌝ }
+    ensures { λ r. ⌜ r ≡ contentsOf (sheetLent wanted weight left right distance) ⌝ }
 {
     let plate = first_outside(wanted, -WANTED_MOST, WANTED_MOST, 5);
     let Checked::Pass = plate else {
@@ -145,17 +167,20 @@ pub fn check(
     distance: &[i64],
     room: Room,
 ) -> Checked
-    ensures { λ r.
-        ⌜ CheckedBy (before wanted) (before weight) (before left) (before right) (before distance) room r ⌝ }
+    ensures { λ r. ⌜ r ≡ tableFor (sheetLent wanted weight left right distance) room ⌝ }
 {
-    let first = sizes(
-        wanted.len(),
-        left.len(),
+    let labels = wanted.len();
+    let gaps = left.len();
+    let ragged = ragged(
+        labels,
+        gaps,
         weight.len(),
         right.len(),
         distance.len(),
-        room,
+        room.carried,
     );
+    let short = short(labels, gaps, room);
+    let first = sizes(labels, gaps, ragged, short);
     let Checked::Pass = first else {
         return first;
     };

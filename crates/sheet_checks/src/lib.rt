@@ -1,8 +1,10 @@
 // What a station lends, and the checks 1 to 8 of the refusal table.
+use ground::Refusal;
+
 pub mod check;
 
-// What the checks find: nothing, or a refusal's number and place.
+// What the checks find: nothing, or a refusal.
 pub enum Checked {
     Pass,
-    Refuse(usize, usize),
+    Refused(Refusal),
 }

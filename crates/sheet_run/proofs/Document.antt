@@ -15,7 +15,8 @@ use Rattle.least_move.specs.Bench as bench
 use Rattle.least_move.proofs.Bench.{bench-right}
 use Rattle.ground.specs.declared.Answer.the-variants.{Placed}
 use Rattle.sheet_checks.specs.Lent.{Read, sheetOf, placeOf}
-use Rattle.sheet_checks.specs.Refusals.{pass, offender, table}
+use Rattle.sheet_checks.specs.declared.Checked.the-variants.{Pass}
+use Rattle.sheet_checks.specs.Refusals.{offenderBelow, tableOf, table}
 use Rattle.layout.specs.Promise.{Accepted}
 use Rattle.layout.proofs.Facts.{places-known, placed-accepted}
 use Rattle.text_reading.specs.declared.Reading.the-variants.{Sheet as sheet-of}
@@ -36,8 +37,8 @@ read-so : reading document-text blank ≡ record { answer = sheet-of (countsOf d
 unfolding reading roomFor
 read-so = rw document-run
 
-table-passes : table read (lent (countsOf document-sheet)) ≡ pass
-unfolding table offender filled
+table-passes : table read (lent (countsOf document-sheet)) ≡ Pass
+unfolding tableOf offenderBelow filled
 table-passes = refl
 
 -- it is the bench's P3
@@ -77,7 +78,7 @@ module _ {printed : List ℕ} (laid : LaidOut (countsOf document-sheet) lists-re
       (subst (λ (s : Sheet). Conditions s (placement P3) (multipliers P3)) (sym same-sheet) (P3-right .conditions))
       lowest
 
-  accepted : Accepted read (lent (countsOf document-sheet)) (laid .after)
+  accepted : Accepted (sheetOf read) (lent (countsOf document-sheet)) (laid .after)
   accepted = placed-accepted (laid .promise) (known .0)
 
   nums : take 2 (laid .after .place-num) ≡ negsuc 2 ∷ pos 9 ∷ []

@@ -17,8 +17,10 @@ use Rattle.algebra.proofs.Quotient.{small-fits}
 use Rattle.least_move.specs.Sheet.{label}
 use Rattle.ground.specs.declared.Answer.{Answer}
 use Rattle.ground.specs.declared.Answer.the-variants as answer
-use Rattle.sheet_checks.specs.Lent.{Read, Written, labelCount, gapCount}
-use Rattle.sheet_checks.specs.Refusals.{Verdict, refuse, pass, table}
+use Rattle.sheet_checks.specs.declared.Checked.{Checked}
+use Rattle.sheet_checks.specs.declared.Checked.the-variants as checked
+use Rattle.sheet_checks.specs.Lent.{Read, Written, labelCount, gapCount, sheetOf}
+use Rattle.sheet_checks.specs.Refusals.{table}
 use Rattle.layout.specs.Promise.{Promise, ByTable, Accepted}
 use Rattle.text_reading.specs.declared.Counts.{Counts}
 use Rattle.text_reading.specs.declared.Reading.{Reading}
@@ -49,7 +51,8 @@ first-fit n l small k = go (ltb k n) refl
 
 module _ (r : Read) (w : Written) (after : Written) (n : ℕ) (few : n ≤ 48) (known : n ≤ labelCount r) where
   -- "Every place is over a denominator of at most 4,800 and lies within 1,140,000 of zero"
-  placed-most : Accepted r w after → length (listing answer.Placed (take n (after .place-num)) (take n (after .place-den))) ≤ listingRoom
+  placed-most : Accepted (sheetOf r) w after → length (listing answer.Placed (take n (after .place-num)) (take n (after .place-den))) ≤ listingRoom
+  unfolding sheetOf
   placed-most a =
       omega (
         arith,
@@ -67,9 +70,9 @@ module _ (r : Read) (w : Written) (after : Written) (n : ℕ) (few : n ≤ 48) (
       never : {x : Refusal} → answer.Placed ≡ answer.Refused x → ⊥
       never e = let z : _≡_ {A = ℕ} 0 1 = cc in omega arith
 
-      go : (v : Verdict) → ByTable v r w answer.Placed after → length (listing answer.Placed (take n (after .place-num)) (take n (after .place-den))) ≤ listingRoom
-      go (refuse number place) k = absurd (never (k .0))
-      go pass k = ⊎-elim (λ j. placed-most (j .1)) (λ j. absurd (never (j .0))) k
+      go : (v : Checked) → ByTable v (sheetOf r) w answer.Placed after → length (listing answer.Placed (take n (after .place-num)) (take n (after .place-den))) ≤ listingRoom
+      go (checked.Refused q) k = absurd (never (k .0))
+      go checked.Pass k = ⊎-elim (λ j. placed-most (j .1)) (λ j. absurd (never (j .0))) k
 
 -- the listing of a layout of the sheet that was read
 pub laid-out-most : (c : Counts) (l : Lists) (w : Written) (a : Answer) (after : Written) → c .labels ≤ 48 → c .gaps ≤ 192

@@ -3,7 +3,7 @@ use Prim.Native.Nat.{ℕ, zero, suc, _+_, _≤_, _<_}
 use mathlib.Core.Path.{_≡_, refl, sym, subst}
 use mathlib.Core.Logic.{⊎-elim}
 use mathlib.Core.Bool.{Bool, true, false, cond, _&&_}
-use mathlib.Core.List.{List, [], _∷_}
+use mathlib.Core.List.{List, [], _∷_, _++_, map}
 use native.Mathlib.Omega.{arith}
 use lib.Dec.{eqb, ltb}
 use lib.ListN.{length, length-append, length-map}
@@ -11,8 +11,12 @@ use borrow.Author.Tests.{ltb-false}
 use Rattle.ground.specs.declared.Refusal.{Refusal}
 use Rattle.ground.specs.declared.Answer.{Answer}
 use Rattle.ground.specs.declared.Answer.the-variants as answer
-use Rattle.sheet_checks.specs.Lent.{Read, Written, labelCount, gapCount}
-use Rattle.sheet_checks.specs.Refusals.{Verdict, refuse, pass, check, offender, ragged, short, offPlate, badWeight, stranger, badGap, table}
+use Rattle.ground.specs.Entries.{Each}
+use Rattle.ground.specs.Limits.{gapsMost, labelsMost}
+use Rattle.sheet_checks.specs.declared.Checked.{Checked}
+use Rattle.sheet_checks.specs.declared.Checked.the-variants as checked
+use Rattle.sheet_checks.specs.Lent.{Read, Written, labelCount, gapCount, sheetOf}
+use Rattle.sheet_checks.specs.Refusals.{firstOf, inTurn, refuse, offenderBelow, offender, sizeTests, tableOf, roomOf, ragged, short, offPlate, badWeight, stranger, badGap, rows, table}
 use Rattle.layout.specs.Promise.{Promise, ByTable}
 use Rattle.text_rows.specs.declared.Taken.{Taken}
 use Rattle.text_rows.specs.declared.Taken.the-variants.{Good, Bad}
@@ -98,34 +102,53 @@ small-reading text b = go (ltb textMost (length text)) refl
 
 -- ---- a sheet
 
-abbrev SmallVerdict : Verdict → Type 0
-SmallVerdict (refuse number place) = (number ≤ 11) × (place ≤ textMost)
-SmallVerdict pass = Unit {0}
+abbrev SmallCheck : Checked → Type 0
+SmallCheck checked.Pass = Unit {0}
+SmallCheck (checked.Refused r) = Small r
 
-small-check : (number : ℕ) → number ≤ 11 → (bad : Bool) (later : Verdict) → SmallVerdict later → SmallVerdict (check number bad later)
-small-check number h true later s = (h, omega arith)
-small-check number h false later s = s
+small-first : (c later : Checked) → SmallCheck c → SmallCheck later → SmallCheck (firstOf c later)
+small-first checked.Pass later s t = t
+small-first (checked.Refused r) later s t = s
 
-small-offender : (number : ℕ) → number ≤ 11 → (n : ℕ) → n ≤ textMost → (bad : ℕ → Bool) (later : Verdict) → SmallVerdict later → SmallVerdict (offender number n bad later)
-unfolding offender
-small-offender number h zero l bad later s = s
-small-offender number h (suc n) l bad later s = small-offender number h n (omega arith) bad (cond (bad n) (refuse number n) later) (go (bad n))
-  where
-    go : (t : Bool) → SmallVerdict (cond t (refuse number n) later)
-    go true = (h, omega arith)
-    go false = s
+small-turn : (cs : List Checked) → Each SmallCheck cs → SmallCheck (inTurn cs)
+small-turn [] s = tt
+small-turn (c ∷ cs) s = small-first c (inTurn cs) (s .0) (small-turn cs (s .1))
 
-small-table : (r : Read) (w : Written) → labelCount r ≤ textMost → gapCount r ≤ textMost → SmallVerdict (table r w)
-unfolding table
+-- a refusal, if it is met
+small-met : (number place : ℕ) → number ≤ 11 → place ≤ textMost → (bad : Bool) → SmallCheck (cond bad (refuse number place) checked.Pass)
+small-met number place h l true = (h, l)
+small-met number place h l false = tt
+
+small-offender : (number : ℕ) → number ≤ 11 → (n : ℕ) → n ≤ textMost → (bad : ℕ → Bool) → SmallCheck (offenderBelow number n bad)
+unfolding offenderBelow
+small-offender number h zero l bad = tt
+small-offender number h (suc n) l bad = small-first (offenderBelow number n bad) (cond (bad n) (refuse number n) checked.Pass) (small-offender number h n (omega arith) bad) (small-met number n h (omega arith) (bad n))
+
+small-table : (r : Read) (w : Written) → labelCount r ≤ textMost → gapCount r ≤ textMost → SmallCheck (table r w)
+unfolding tableOf
 small-table r w l g =
-    small-check 1 (omega arith) (ltb 48 (labelCount r)) _
-    (small-check 2 (omega arith) (ltb 192 (gapCount r)) _
-    (small-check 3 (omega arith) (ragged r w) _
-    (small-check 4 (omega arith) (short r w) _
-    (small-offender 5 (omega arith) (labelCount r) l (offPlate r) _
-    (small-offender 6 (omega arith) (labelCount r) l (badWeight r) _
-    (small-offender 7 (omega arith) (gapCount r) g (stranger r) _
-    (small-offender 8 (omega arith) (gapCount r) g (badGap r) pass tt)))))))
+    small-turn (sizeTests (labelCount r) (gapCount r) (ragged r (length (w .carried))) (short (labelCount r) (gapCount r) (roomOf w)) ++ map offender (rows r)) (
+      small-met 1 0 (omega arith) (omega arith) (ltb labelsMost (labelCount r)),
+      (
+        small-met 2 0 (omega arith) (omega arith) (ltb gapsMost (gapCount r)),
+        (
+          small-met 3 0 (omega arith) (omega arith) (ragged r (length (w .carried))),
+          (
+            small-met 4 0 (omega arith) (omega arith) (short (labelCount r) (gapCount r) (roomOf w)),
+            (
+              small-offender 5 (omega arith) (labelCount r) l (offPlate r .bad),
+              (
+                small-offender 6 (omega arith) (labelCount r) l (badWeight r .bad),
+                (
+                  small-offender 7 (omega arith) (gapCount r) g (stranger r .bad),
+                  (small-offender 8 (omega arith) (gapCount r) g (badGap r .bad), tt),
+                ),
+              ),
+            ),
+          ),
+        ),
+      ),
+    )
 
 abbrev pub SmallAnswer : Answer → Type 0
 SmallAnswer answer.Placed = Unit {0}
@@ -135,9 +158,9 @@ SmallAnswer (answer.Refused r) = Small r
 pub small-answer : (r : Read) (w : Written) (a : Answer) (after : Written) → labelCount r ≤ textMost → gapCount r ≤ textMost → Promise r w a after → SmallAnswer a
 small-answer r w a after l g p = go (table r w) (small-table r w l g) (p .kept)
   where
-    go : (v : Verdict) → SmallVerdict v → ByTable v r w a after → SmallAnswer a
-    go (refuse number place) s k = subst SmallAnswer (sym (k .0)) s
-    go pass s k =
+    go : (v : Checked) → SmallCheck v → ByTable v (sheetOf r) w a after → SmallAnswer a
+    go (checked.Refused q) s k = subst SmallAnswer (sym (k .0)) s
+    go checked.Pass s k =
         ⊎-elim
         (λ placed. subst SmallAnswer (sym (placed .0)) tt)
         (λ ring. subst SmallAnswer (sym (ring .0)) (omega arith, omega arith))

@@ -31,16 +31,22 @@ sheetRead c l = record {
   gaps = lists (take (c .gaps) (l .left)) (take (c .gaps) (l .right)) (take (c .gaps) (l .distance));
 }
 
--- "The program starts from a carried record of zeros"; the other buffers have room for every sheet
+-- what a run lends to write: room for every sheet, and "a carried record of zeros"
 abbrev pub lent : Counts → Written
 lent c = record { place-num = zeros labelsMost; place-den = zeros labelsMost; mult-num = zeros gapsMost; mult-den = zeros gapsMost; ring = replicate labelsMost 0; carried = replicate (c .gaps) 0 }
 
--- the listing of what a layout call that keeps its promise answers; it "prints neither multipliers nor rings"
-pub record LaidOut (c : Counts) (l : Lists) (printed : List ℕ) : Type 0 where
+-- the listing of what a layout call that keeps its promise answers, lent w to write;
+-- it "prints neither multipliers nor rings"
+pub record LaidFrom (w : Written) (c : Counts) (l : Lists) (printed : List ℕ) : Type 0 where
   pub answer : Answer
   pub after : Written
-  pub promise : Promise (sheetRead c l) (lent c) answer after
+  pub promise : Promise (sheetRead c l) w answer after
   pub listed : printed ≡ listing answer (take (c .labels) (after .place-num)) (take (c .labels) (after .place-den))
+
+-- "The program starts from a carried record of zeros". No byte that is printed can show it: from any other record, and
+-- whatever the buffers held, the same is printed (`start-unseen` in proofs/Decided).
+abbrev pub LaidOut : Counts → Lists → List ℕ → Type 0
+LaidOut c l printed = LaidFrom (lent c) c l printed
 
 -- what is printed for a reading: "A refused sheet prints only: refused, number, place"
 abbrev pub PrintedFor : Reading → Lists → List ℕ → Type 0

@@ -19,7 +19,7 @@ ghost use Rattle.ground.specs.Limits.{labelsMost};
 ghost use Rattle.text_reading.specs.Texts.{listsLent, listsNow};
 ghost use Rattle.ground.specs.Views.{after, before};
 
-// Lays out the sheet that was read, from a carried record of zeros.
+// Lays out the sheet that was read. It starts from a carried record of zeros; no other would print another byte.
 fn lay_out_read(
     counts: Counts,
     wanted: &[i64],

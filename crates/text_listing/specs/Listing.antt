@@ -15,6 +15,7 @@ use Rattle.text_listing.specs.declared.Listed.the-variants as listed
 use Rattle.text_rows.specs.Bytes.{bytes}
 use Rattle.text_rows.specs.Lines.{next, recordEnd}
 use Rattle.text_rows.specs.Numeral.{decimal, signedDecimal}
+use Rattle.ground.specs.Answers.{refusedAt}
 use Rattle.ground.specs.Entries.{int}
 use Rattle.ground.specs.Limits.{labelsMost}
 
@@ -55,6 +56,24 @@ abbrev pub listing : Answer → List ℤ → List ℤ → List ℕ
 listing Placed nums dens = placeRecords (length nums) nums dens
 listing (Refused r) nums dens = refusedRecord r
 
+-- document 01's number for each case of the writer's answer and its place, and the count of bytes written:
+-- number and place are 0 for a listing that is written, the count is 0 for one that is refused
+abbrev pub numberOf : Listed → ℕ
+numberOf (listed.Written bytes) = 0
+numberOf (listed.Refused r) = r .number
+
+abbrev pub placeOf : Listed → ℕ
+placeOf (listed.Written bytes) = 0
+placeOf (listed.Refused r) = r .place
+
+abbrev pub bytesOf : Listed → ℕ
+bytesOf (listed.Written bytes) = bytes
+bytesOf (listed.Refused r) = 0
+
+-- a refusal of the writer, whose place is 0
+abbrev pub refusal : ℕ → Listed
+refusal number = listed.Refused (refusedAt number 0)
+
 -- an answer with the buffer afterwards
 pub record Listing : Type 0 where
   pub answer : Listed
@@ -64,7 +83,7 @@ abbrev pub listedAs : Listed → List ℕ → Listing
 listedAs answer b = record { answer = answer; buffer = b }
 
 abbrev pub notListed : ℕ → List ℕ → Listing
-notListed number b = listedAs (listed.Refused (record { number = number; place = 0; ring = 0 })) b
+notListed number b = listedAs (refusal number) b
 
 -- a text over the front of a buffer; one that is too short for it is refused with 4 and stays
 abbrev pub laid : List ℕ → List ℕ → Listing

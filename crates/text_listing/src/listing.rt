@@ -18,7 +18,7 @@ ghost use Rattle.exact.specs.Round.{rounded, wholeOf};
 ghost use Rattle.ground.specs.declared.Answer.the-variants.{Placed};
 ghost use Rattle.text_listing.specs.Appended.{Appended};
 ghost use Rattle.text_rows.specs.Lines.{recordEnd};
-ghost use Rattle.text_listing.specs.Listing.{placeRoom, refusedRoom, listingRoom, laid, listedAs, listedIn};
+ghost use Rattle.text_listing.specs.Listing.{placeRoom, refusedRoom, listingRoom, laid, listedAs, listedIn, refusal};
 ghost use Rattle.text_listing.specs.Listing.{placeRecord, placeRecords, refusedRecord};
 ghost use Rattle.ground.specs.Limits.{labelsMost};
 ghost use Rattle.ground.specs.Views.{after, before};
@@ -85,7 +85,7 @@ fn put_refused(buf: &mut [u8], refusal: Refusal) -> usize
 
 // A refusal of the listing, whose place is 0.
 fn refused(number: usize) -> Listed
-    ensures { λ r. ⌜ r ≡ Listed.Refused (record { number = number; place = 0; ring = 0 }) ⌝ }
+    ensures { λ r. ⌜ r ≡ refusal number ⌝ }
 {
     Listed::Refused(Refusal {
         number,

@@ -26,7 +26,8 @@ use Rattle.text_rows.specs.Taking.{taken}
 use Rattle.text_reading.specs.Texts.{Typed, nothingTyped, add, Outcome, bad-line, sheet, follow, readFrom, outcome}
 use Rattle.text_reading.specs.Texts.{textMost, Lists, countsOf, front, filled, roomFor, refusedWith, settled, judged, reading}
 use Rattle.text_rows.specs.LineAt.{LineAt}
-use Rattle.text_reading.specs.Parts.{Stored, countedWith, stored, storedIn, WorkArrays, Holds, Held, refusal, ScannedBy}
+use Rattle.text_reading.specs.Parts.{Stored, countedWith, stored, storedIn, WorkArrays, Holds, Held, ScannedBy}
+use Rattle.text_reading.specs.Readings.{refusal}
 use Rattle.text_reading.specs.Parts.{judgedBy, roomy, roomOf, overAll, answered, HandedOver, ReadInto}
 use Rattle.ground.specs.Entries.{over}
 use Rattle.ground.specs.Limits.{gapsMost, labelsMost}

@@ -10,7 +10,7 @@ use Rattle.text_rows.specs.Lines.{lines, fields}
 use Rattle.text_rows.specs.Numeral.{allDigits, valueOf, number, signed, weightOf}
 use Rattle.text_rows.specs.Taking.{same, rowOf}
 use Rattle.text_reading.specs.Texts.{textMost, bad-line, readFrom, outcome, Lists, roomFor, refusedWith, judged, reading}
-use Rattle.text_reading.specs.Parts.{refusal}
+use Rattle.text_reading.specs.Readings.{refusal}
 use Rattle.text_reading.proofs.Examples.{document-text}
 use Rattle.text_reading.proofs.ReadLaws.{long-text, short-text}
 

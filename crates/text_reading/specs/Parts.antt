@@ -11,6 +11,7 @@ use Rattle.text_reading.specs.declared.Counts.{Counts}
 use Rattle.text_reading.specs.declared.Reading.{Reading}
 use Rattle.text_reading.specs.declared.Reading.the-variants.{Sheet, Refused}
 use Rattle.text_reading.specs.declared.read.Room.{Room}
+use Rattle.text_reading.specs.Readings.{refusal}
 use Rattle.text_reading.specs.Texts.{Typed, Outcome, bad-line, sheet, Lists, Done, countsOf, reading}
 use Rattle.ground.specs.Limits.{gapsMost, labelsMost}
 use Rattle.ground.specs.Entries.{over}
@@ -65,10 +66,6 @@ pub record Held (t : Typed) (w : Lists) : Type 0 where
   pub left : Holds gapsMost (w .left) (map (λ g. g .left) (t .gaps))
   pub right : Holds gapsMost (w .right) (map (λ g. g .right) (t .gaps))
   pub distance : Holds gapsMost (w .distance) (map (λ g. g .distance) (t .gaps))
-
--- a refusal; with a text there is no ring
-abbrev pub refusal : (number place : ℕ) → Reading
-refusal number place = Refused (record { number = number; place = place; ring = 0 })
 
 -- the answer of the loop over the lines
 abbrev pub ScannedBy : Outcome → Reading → Lists → Type 0

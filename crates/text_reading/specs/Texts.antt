@@ -13,7 +13,8 @@ use Rattle.text_rows.specs.declared.Taken.{Taken}
 use Rattle.text_rows.specs.declared.Taken.the-variants.{Good, Bad}
 use Rattle.text_reading.specs.declared.Counts.{Counts}
 use Rattle.text_reading.specs.declared.Reading.{Reading}
-use Rattle.text_reading.specs.declared.Reading.the-variants.{Sheet, Refused}
+use Rattle.text_reading.specs.declared.Reading.the-variants.{Sheet}
+use Rattle.text_reading.specs.Readings.{refusal}
 use Rattle.text_rows.specs.Lines.{lines}
 use Rattle.text_rows.specs.Taking.{taken}
 use Rattle.ground.specs.Limits.{gapsMost, labelsMost}
@@ -89,10 +90,7 @@ pub record Done : Type 0 where
 
 -- "A refused call writes nothing"
 abbrev pub refusedWith : ℕ → ℕ → Lists → Done
-refusedWith number place b = record {
-  answer = Refused (record { number = number; place = place; ring = 0 });
-  lists = b;
-}
+refusedWith number place b = record { answer = refusal number place; lists = b }
 
 abbrev pub countsOf : Typed → Counts
 countsOf t = record { labels = length (t .labels); gaps = length (t .gaps) }

@@ -19,7 +19,8 @@ ghost use mathlib.Core.Path.{_≡_};
 ghost use Prim.Native.Nat.{_≤_};
 ghost use lib.ListN.{length};
 ghost use Rattle.text_reading.specs.Texts.{textMost, outcome, listsLent, listsNow};
-ghost use Rattle.text_reading.specs.Parts.{WorkArrays, refusal, ScannedBy, judgedBy, HandedOver, ReadInto};
+ghost use Rattle.text_reading.specs.Readings.{refusal};
+ghost use Rattle.text_reading.specs.Parts.{WorkArrays, ScannedBy, judgedBy, HandedOver, ReadInto};
 ghost use Rattle.ground.specs.Views.{before};
 
 // How many entries each lent list has.

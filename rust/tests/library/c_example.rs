@@ -1,4 +1,5 @@
 //! The example in C is compiled with the header and the static library, and run on texts.
+use std::fs::File;
 use std::io::Write;
 use std::path::{Path, PathBuf};
 use std::process::{Command, Stdio};
@@ -58,4 +59,22 @@ fn runs() {
     assert_eq!(printed(&program, b"label,0,0,1\n\n"), "refused,10,2\r\n");
     assert_eq!(printed(&program, &[b'\n'; 16_385]), "refused,11,0\r\n");
     assert_eq!(printed(&program, b""), "");
+    fails(&program);
+}
+
+/// A directory cannot be read, and a full device takes no listing.
+fn fails(program: &Path) {
+    let folder = File::open(env!("CARGO_MANIFEST_DIR")).expect("the package's folder");
+    let unread = Command::new(program).stdin(folder).output().expect("a run");
+    assert_eq!((unread.status.code(), unread.stdout), (Some(1), vec![]));
+    let full = File::options().write(true).open("/dev/full");
+    let sheet = File::open(concat!(
+        env!("CARGO_MANIFEST_DIR"),
+        "/../sheets/document-01.csv"
+    ));
+    let unwritten = Command::new(program)
+        .stdin(sheet.expect("the sheet"))
+        .stdout(full.expect("/dev/full"))
+        .status();
+    assert_eq!(unwritten.expect("a run").code(), Some(1));
 }

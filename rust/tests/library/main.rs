@@ -19,4 +19,6 @@ mod generated;
 mod laws;
 mod raw_calls;
 mod rounding;
+mod stack;
+mod station;
 mod text;

@@ -1,36 +1,29 @@
--- `station::main` is safe and ends: what is printed lies within the buffer.
-use mathlib.Core.Path.{sym}
-use Prim.Native.Nat.{_≤_}
+-- `station::main` is safe and ends: what was read lies within the buffer.
+use mathlib.Core.Path.{subst}
 use borrow.Author.Needs.{needs}
-use native.Mathlib.Omega.{arith}
-use lib.ListN.{length}
-use lib.Seq.{length-take-le}
+use Rattle.station.specs.declared.input.Input.the-variants.{Read}
+use Rattle.station.specs.Input.{Within}
 use Rattle.station.proofs.main.Statement.{statement}
 use Rattle.station.proofs.main.Tie as tie
 
-printed-within : (c : tie.After-run-sheet) → c .run-sheet .result ≤ length (c .run-sheet .last .1 .0)
-printed-within c = omega (arith, c .run-sheet .ensures .within, c .run-sheet .ensures .rest .size)
+-- what was read lies at the front of the buffer
+read-within : (c : tie.After-size) → Within (Read (c .size .given .0 .0)) (c .before .before .before .read-input .last .1 .0)
+read-within c = subst (λ r. Within r (c .before .before .before .read-input .last .1 .0)) (c .size .given .1) (c .before .before .before .read-input .ensures)
 
-slice-aggregate-read-full : tie.Need-slice-aggregate-read-full
-slice-aggregate-read-full c = search needs
+slice-aggregate-read-input : tie.Need-slice-aggregate-read-input
+slice-aggregate-read-input c = search needs
 
-read-full-requires : tie.Need-read-full-requires
-read-full-requires c κs = search needs
+read-input-requires : tie.Need-read-input-requires
+read-input-requires c κs = search needs
 
-array-share-prefix-text : tie.Need-array-share-prefix-text
-array-share-prefix-text c = search needs
+enum-known-size : tie.Need-enum-known-size
+enum-known-size c = search needs
 
-slice-aggregate-run-sheet : tie.Need-slice-aggregate-run-sheet
-slice-aggregate-run-sheet c = search needs
-
-run-sheet-requires : tie.Need-run-sheet-requires
-run-sheet-requires c κs = search needs
-
-array-share-prefix-out : tie.Need-array-share-prefix-out
-array-share-prefix-out c = printed-within c
+enum-told : tie.Need-enum-told
+enum-told c = search needs
 
 slice-aggregate-write-all : tie.Need-slice-aggregate-write-all
-slice-aggregate-write-all c = sym (length-take-le (c .before .run-sheet .result) (c .before .run-sheet .last .1 .0) (printed-within (c .before)))
+slice-aggregate-write-all c = search needs
 
 write-all-requires : tie.Need-write-all-requires
 write-all-requires c κs = search needs
@@ -38,16 +31,30 @@ write-all-requires c κs = search needs
 returns : tie.Need-returns
 returns c = search needs
 
+array-share-prefix-text : tie.Need-array-share-prefix-text
+array-share-prefix-text c = read-within (c .before) .0
+
+slice-aggregate-print-sheet : tie.Need-slice-aggregate-print-sheet
+slice-aggregate-print-sheet c = read-within (c .before .before) .1
+
+print-sheet-requires : tie.Need-print-sheet-requires
+print-sheet-requires c κs = search needs
+
+returns-2 : tie.Need-returns-2
+returns-2 c = search needs
+
 pub main-spec : {M : Type 1} → statement M
 main-spec =
     tie.close
     (tie.spec
-    slice-aggregate-read-full
-    read-full-requires
-    array-share-prefix-text
-    slice-aggregate-run-sheet
-    run-sheet-requires
-    array-share-prefix-out
+    slice-aggregate-read-input
+    read-input-requires
+    enum-known-size
+    enum-told
     slice-aggregate-write-all
     write-all-requires
-    returns)
+    returns
+    array-share-prefix-text
+    slice-aggregate-print-sheet
+    print-sheet-requires
+    returns-2)

@@ -3,8 +3,7 @@
 use borrow.Author.Needs.{needs}
 use mathlib.Core.Path.{ap, _∙_}
 use Rattle.ground.specs.declared.Answer.{Answer}
-use Rattle.text_listing.specs.Listing.{Listing, listedIn}
-use Rattle.dirmoog_c.specs.Texted.{listedNumber, listedBytes}
+use Rattle.text_listing.specs.Listing.{Listing, listedIn, numberOf, bytesOf}
 use Rattle.dirmoog_c.proofs.Telling.{told-at}
 use Rattle.dirmoog_c.proofs.text.dirmoog_listing.Statement.{statement}
 use Rattle.dirmoog_c.proofs.text.dirmoog_listing.Tie as tie
@@ -37,10 +36,10 @@ returns c =
     (c .before .before .before .before .before .before .before .before .before .before .answer-of .ensures) in
     let wrote = c .before .before .before .before .before .before .before .before .write-listing .ensures in
     let answer = wrote .0 ∙ ap (λ (l : Listing). l .answer) listing in (
-      c .listed-number .ensures ∙ ap listedNumber answer,
+      c .listed-number .ensures ∙ ap numberOf answer,
       (
         wrote .1 ∙ ap (λ (l : Listing). l .buffer) listing,
-        told-at (a .out .now) 0 (c .before .before .before .put .ensures) (c .before .before .before .before .listed-bytes .ensures ∙ ap listedBytes answer),
+        told-at (a .out .now) 0 (c .before .before .before .put .ensures) (c .before .before .before .before .listed-bytes .ensures ∙ ap bytesOf answer),
       ),
     )
 

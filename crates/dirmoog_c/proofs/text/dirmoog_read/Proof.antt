@@ -3,7 +3,8 @@
 use borrow.Author.Needs.{needs}
 use mathlib.Core.Path.{ap, _∙_}
 use Rattle.text_reading.specs.Texts.{Done}
-use Rattle.dirmoog_c.specs.Texted.{readNumber, readFirst, readSecond}
+use Rattle.text_reading.specs.Readings.{numberOf}
+use Rattle.dirmoog_c.specs.Texted.{readFirst, readSecond}
 use Rattle.dirmoog_c.proofs.Telling.{told-both}
 use Rattle.dirmoog_c.proofs.text.dirmoog_read.Statement.{statement}
 use Rattle.dirmoog_c.proofs.text.dirmoog_read.Tie as tie
@@ -51,7 +52,7 @@ returns c =
     let answer = ap (λ (r : Done). r .answer) (d .read-sheet .ensures) in
     record {
       lists = ap (λ (r : Done). r .lists) (d .read-sheet .ensures);
-      returned = p .before .before .before .read-number .ensures ∙ ap readNumber answer;
+      returned = p .before .before .before .read-number .ensures ∙ ap numberOf answer;
       out-told = told-both (d .before .before .before .before .before .before .before .before .before .before .args .out .now) (p .put .last .0)
           (p .put .ensures) (p .before .read-first .ensures ∙ ap readFirst answer)
           (c .before .before .put2 .ensures) (c .before .before .before .read-second .ensures ∙ ap readSecond answer);

@@ -1,7 +1,7 @@
--- `sheet_checks::check::contents` meets its contract:
--- each check is the table's, and goes on to the next where it passes.
+-- `sheet_checks::check::contents` meets its contract: a row that refuses ends the checks, and one that passes goes on.
+use mathlib.Core.Path.{_∙_}
 use borrow.Author.Needs.{needs}
-use Rattle.sheet_checks.proofs.CheckLaws.{ends-5, ends-6, ends-7, ends-8}
+use Rattle.sheet_checks.proofs.CheckLaws.{ends, goes-on, alone, weights-counted, distances-counted}
 use Rattle.sheet_checks.proofs.check.contents.Statement.{statement}
 use Rattle.sheet_checks.proofs.check.contents.Tie as tie
 
@@ -18,10 +18,7 @@ enum-told-2 : tie.Need-enum-told-2
 enum-told-2 c = search needs
 
 returns : tie.Need-returns
-returns c =
-    let s = c .before .before .before .before .before in
-    ends-5 (s .args .wanted .now) (s .args .weight .now) (s .args .left .now) (s .args .right .now) (s .args .distance .now) (s .pre)
-    (c .before .before .first-outside .result) (c .before .before .first-outside .ensures) (c .enum-told2 .given .1)
+returns c = ends _ (c .enum-told2 .given .1) (c .before .before .first-outside .ensures)
 
 first-outside-requires-2 : tie.Need-first-outside-requires-2
 first-outside-requires-2 c κs = search needs
@@ -34,10 +31,11 @@ enum-told-4 c = search needs
 
 returns-2 : tie.Need-returns-2
 returns-2 c =
-    let s = c .before .before .before .before .before .before .before .before in
-    ends-6 (s .args .wanted .now) (s .args .weight .now) (s .args .left .now) (s .args .right .now) (s .args .distance .now) (s .pre)
-    (c .before .before .before .before .before .first-outside .result) (c .before .before .before .before .before .first-outside .ensures) (c .before .before .before .enum-told .given .1)
-    (c .before .before .first-outside2 .result) (c .before .before .first-outside2 .ensures) (c .enum-told4 .given .1)
+    let d = c .before .before .before in
+    let a = d .before .before .before .before .before in
+    goes-on _ (d .enum-told .given .1) (d .before .before .first-outside .ensures)
+    (ends _ (c .enum-told4 .given .1)
+    (c .before .before .first-outside2 .ensures ∙ weights-counted _ _ _ _ _ (a .pre)))
 
 first-stranger-requires : tie.Need-first-stranger-requires
 first-stranger-requires c κs = search needs
@@ -50,11 +48,12 @@ enum-told-6 c = search needs
 
 returns-3 : tie.Need-returns-3
 returns-3 c =
-    let s = c .before .before .before .before .before .before .before .before .before .before .before in
-    ends-7 (s .args .wanted .now) (s .args .weight .now) (s .args .left .now) (s .args .right .now) (s .args .distance .now) (s .pre)
-    (c .before .before .before .before .before .before .before .before .first-outside .result) (c .before .before .before .before .before .before .before .before .first-outside .ensures) (c .before .before .before .before .before .before .enum-told .given .1)
-    (c .before .before .before .before .before .first-outside2 .result) (c .before .before .before .before .before .first-outside2 .ensures) (c .before .before .before .enum-told3 .given .1)
-    (c .before .before .first-stranger .result) (c .before .before .first-stranger .ensures) (c .enum-told6 .given .1)
+    let b = c .before .before .before in
+    let d = b .before .before .before in
+    let a = d .before .before .before .before .before in
+    goes-on _ (d .enum-told .given .1) (d .before .before .first-outside .ensures)
+    (goes-on _ (b .enum-told3 .given .1) (b .before .before .first-outside2 .ensures ∙ weights-counted _ _ _ _ _ (a .pre))
+    (ends _ (c .enum-told6 .given .1) (c .before .before .first-stranger .ensures)))
 
 sub-first-outside-2 : tie.Need-sub-first-outside-2
 sub-first-outside-2 c = search needs
@@ -64,12 +63,14 @@ first-outside-requires-3 c κs = search needs
 
 returns-4 : tie.Need-returns-4
 returns-4 c =
-    let s = c .before .before .before .before .before .before .before .before .before .before .before .before in
-    ends-8 (s .args .wanted .now) (s .args .weight .now) (s .args .left .now) (s .args .right .now) (s .args .distance .now) (s .pre)
-    (c .before .before .before .before .before .before .before .before .before .first-outside .result) (c .before .before .before .before .before .before .before .before .before .first-outside .ensures) (c .before .before .before .before .before .before .before .enum-told .given .1)
-    (c .before .before .before .before .before .before .first-outside2 .result) (c .before .before .before .before .before .before .first-outside2 .ensures) (c .before .before .before .before .enum-told3 .given .1)
-    (c .before .before .before .first-stranger .result) (c .before .before .before .first-stranger .ensures) (c .before .enum-told5 .given .1)
-    (c .first-outside3 .result) (c .first-outside3 .ensures)
+    let e = c .before in
+    let b = e .before .before .before in
+    let d = b .before .before .before in
+    let a = d .before .before .before .before .before in
+    goes-on _ (d .enum-told .given .1) (d .before .before .first-outside .ensures)
+    (goes-on _ (b .enum-told3 .given .1) (b .before .before .first-outside2 .ensures ∙ weights-counted _ _ _ _ _ (a .pre))
+    (goes-on _ (e .enum-told5 .given .1) (e .before .before .first-stranger .ensures)
+    (c .first-outside3 .ensures ∙ distances-counted _ _ _ _ _ (a .pre) ∙ alone _)))
 
 pub contents-spec : {M : Type 1} → statement M
 contents-spec =

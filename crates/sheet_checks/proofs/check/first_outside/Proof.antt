@@ -1,6 +1,7 @@
 -- `sheet_checks::check::first_outside` meets its contract:
 -- the numbers passed are inside, so the first one outside is the table's offender.
 use Prim.Native.Nat.{_≤_, _-_}
+use mathlib.Core.Path.{_∙_}
 use native.Mathlib.Omega.{arith}
 use borrow.Author.Needs.{needs}
 use lib.ListN.{length}
@@ -25,12 +26,17 @@ mul-if1 c = search needs
 shared-slice-copy-out-if1 : tie.Need-shared-slice-copy-out-if1 Inv-loop μ-loop
 shared-slice-copy-out-if1 c = search needs
 
+refused-requires : tie.Need-refused-requires Inv-loop μ-loop
+refused-requires c κs = search needs
+
 returns : tie.Need-returns Inv-loop μ-loop
 returns c =
-    let s = c .before .before .before .before in
-    let l = c .before .before .before .loop in
-    below-refused (s .args .list .now) (s .args .least) (s .args .most) (s .args .number) (s .fits .least) (s .fits .most) (l .k) (l .inv .1)
-    (c .before .if12 .given) (omega arith) (c .if1 .taken)
+    let d = c .before in
+    let s = d .before .before .before .before in
+    let l = d .before .before .before .loop in
+    c .refused .ensures
+    ∙ below-refused (s .args .list .now) (s .args .least) (s .args .most) (s .args .number) (s .fits .least) (s .fits .most) (l .k) (l .inv .1)
+    (d .before .if12 .given) (omega arith) (d .if1 .taken)
 
 mul-if2 : tie.Need-mul-if2 Inv-loop μ-loop
 mul-if2 c = search needs
@@ -38,12 +44,17 @@ mul-if2 c = search needs
 shared-slice-copy-out-if2 : tie.Need-shared-slice-copy-out-if2 Inv-loop μ-loop
 shared-slice-copy-out-if2 c = search needs
 
+refused-requires-2 : tie.Need-refused-requires-2 Inv-loop μ-loop
+refused-requires-2 c κs = search needs
+
 returns-2 : tie.Need-returns-2 Inv-loop μ-loop
 returns-2 c =
-    let s = c .before .before .before .before .before .before in
-    let l = c .before .before .before .before .before .loop in
-    above-refused (s .args .list .now) (s .args .least) (s .args .most) (s .args .number) (s .fits .least) (s .fits .most) (l .k) (l .inv .1)
-    (c .before .if22 .given) (omega arith) (c .before .before .if1 .left) (c .if2 .taken)
+    let d = c .before in
+    let s = d .before .before .before .before .before .before in
+    let l = d .before .before .before .before .before .loop in
+    c .refused2 .ensures
+    ∙ above-refused (s .args .list .now) (s .args .least) (s .args .most) (s .args .number) (s .fits .least) (s .fits .most) (l .k) (l .inv .1)
+    (d .before .if22 .given) (omega arith) (d .before .before .if1 .left) (d .if2 .taken)
 
 add-k : tie.Need-add-k Inv-loop μ-loop
 add-k c = search needs
@@ -74,9 +85,11 @@ first-outside-spec =
     loop-holds
     mul-if1
     shared-slice-copy-out-if1
+    refused-requires
     returns
     mul-if2
     shared-slice-copy-out-if2
+    refused-requires-2
     returns-2
     add-k
     loop-less

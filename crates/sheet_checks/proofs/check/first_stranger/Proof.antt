@@ -1,6 +1,7 @@
 -- `sheet_checks::check::first_stranger` meets its contract:
 -- the gaps passed are known, so the first stranger is the table's offender.
 use Prim.Native.Nat.{_≤_, _-_}
+use mathlib.Core.Path.{_∙_}
 use native.Mathlib.Omega.{arith}
 use borrow.Author.Needs.{needs}
 use lib.ListN.{length}
@@ -23,11 +24,16 @@ mul-if1 c = search needs
 shared-slice-read-if1 : tie.Need-shared-slice-read-if1 Inv-loop μ-loop
 shared-slice-read-if1 c = search needs
 
+refused-requires : tie.Need-refused-requires Inv-loop μ-loop
+refused-requires c κs = search needs
+
 returns : tie.Need-returns Inv-loop μ-loop
 returns c =
-    let s = c .before .before .before .before in
-    let l = c .before .before .before .loop in
-    left-refused (s .args .labels) (s .args .left .now) (s .args .right .now) (l .gap) (l .inv .1) (omega arith) (omega arith)
+    let d = c .before in
+    let s = d .before .before .before .before .before .before in
+    let l = d .before .before .before .loop in
+    c .refused .ensures
+    ∙ left-refused (s .args .labels) (s .args .left .now) (s .args .right .now) (l .gap) (l .inv .1) (omega arith) (omega arith)
 
 mul-if2 : tie.Need-mul-if2 Inv-loop μ-loop
 mul-if2 c = search needs
@@ -35,11 +41,16 @@ mul-if2 c = search needs
 shared-slice-read-if2 : tie.Need-shared-slice-read-if2 Inv-loop μ-loop
 shared-slice-read-if2 c = omega arith
 
+refused-requires-2 : tie.Need-refused-requires-2 Inv-loop μ-loop
+refused-requires-2 c κs = search needs
+
 returns-2 : tie.Need-returns-2 Inv-loop μ-loop
 returns-2 c =
-    let s = c .before .before .before .before .before .before in
-    let l = c .before .before .before .before .before .loop in
-    right-refused (s .args .labels) (s .args .left .now) (s .args .right .now) (l .gap) (l .inv .1) (omega arith) (omega arith) (omega arith)
+    let d = c .before in
+    let s = d .before .before .before .before .before .before .before .before in
+    let l = d .before .before .before .before .before .loop in
+    c .refused2 .ensures
+    ∙ right-refused (s .args .labels) (s .args .left .now) (s .args .right .now) (l .gap) (l .inv .1) (omega arith) (omega arith) (omega arith)
 
 add-gap : tie.Need-add-gap Inv-loop μ-loop
 add-gap c = search needs
@@ -49,13 +60,13 @@ loop-less c = search needs
 
 loop-again : tie.Need-loop-again Inv-loop μ-loop
 loop-again c =
-    let s = c .before .before .before .before .before .before in
+    let s = c .before .before .before .before .before .before .before .before in
     let l = c .before .before .before .before .before .loop in
     (omega arith, known-more (s .args .labels) (s .args .left .now) (s .args .right .now) (l .gap) (l .inv .1) (omega arith) (omega arith))
 
 returns-3 : tie.Need-returns-3 Inv-loop μ-loop
 returns-3 c =
-    let s = c .before .before in
+    let s = c .before .before .before .before in
     all-known (s .args .labels) (s .args .left .now) (s .args .right .now) (c .before .loop .gap) (c .before .loop .inv .1) (omega arith)
 
 pub first-stranger-spec : {M : Type 1} → statement M
@@ -67,9 +78,11 @@ first-stranger-spec =
     loop-holds
     mul-if1
     shared-slice-read-if1
+    refused-requires
     returns
     mul-if2
     shared-slice-read-if2
+    refused-requires-2
     returns-2
     add-gap
     loop-less

@@ -1,0 +1,187 @@
+-- What a call on each sheet of the bench comes to: the table lets all of them pass, by one test computed over the list,
+-- and then the promise and what is right of the case leave one answer.
+use Prim.Native.Nat.{ℕ, zero, suc, _<_}
+use mathlib.Core.Path.{_≡_, refl, sym, _∙_, ap, ap₂, subst}
+use mathlib.Core.Bool.{Bool, true, false}
+use mathlib.Core.List.{List, [], _∷_, _++_, map, List·Memᴰ, List·Memᴰ·head, List·Memᴰ·tail}
+use native.Mathlib.Omega.{arith}
+use lib.Dec.{T}
+use lib.ListN.{length, getD, length-map, List·getD-map}
+use lib.IntN.{pos}
+use Rattle.exact.specs.Fraction.{LowestTerms, whole}
+use Rattle.exact.proofs.Divisor.{lowest-unique}
+use Rattle.ground.specs.declared.Answer.{Answer}
+use Rattle.ground.specs.declared.Answer.the-variants as answer
+use Rattle.ground.specs.declared.GapNumber.{GapNumber}
+use Rattle.ground.specs.declared.Label.{Label}
+use Rattle.ground.specs.Answers.{refusal}
+use Rattle.least_move.specs.Sheet.{Sheet, Proper, at-least, label}
+use Rattle.least_move.specs.Placement.{Feasible}
+use Rattle.least_move.specs.Multipliers.{Conditions}
+use Rattle.least_move.specs.Ring.{Ring}
+use Rattle.least_move.specs.Bench.{WrittenGap, Source, given, worked-out, Placed, Refused, Case, placed, refused, moved, bench, placement, multipliers, written, RightPlaced, RightRefused, OnlyMultipliers, _to_of_}
+use Rattle.least_move.specs.Bench as bench
+use Rattle.least_move.proofs.Bench.{Test, granted, _on_, each, bench-right}
+use Rattle.least_move.proofs.Places.{conditions-places}
+use Rattle.sheet_checks.specs.declared.Checked.{Checked}
+use Rattle.sheet_checks.specs.declared.Checked.the-variants as checked
+use Rattle.sheet_checks.specs.Lent.{Written, labelCount, gapCount, atLeast, sheetOf, placeOf, multiplierOf}
+use Rattle.sheet_checks.specs.Refusals.{offenderBelow, tableOf, ragged, rows, table}
+use Rattle.sheet_checks.proofs.Passed.{passed-proper}
+use Rattle.layout.specs.Promise.{Promise, Accepted, forwards}
+use Rattle.layout.specs.BenchCalls.{Form, as-lists, as-records, recordOf, lend, LentWith, EachCall, MultipliersSo, PlacedSo, RefusedSo, AnsweredSo}
+use Rattle.layout.proofs.Facts.{judged, placed-accepted, places-known}
+
+-- ---- the table lets them pass
+
+-- the table of a bench sheet, where its buffers have room
+abbrev Fits : Form → bench.Written → Type 0
+Fits f s =
+    tableOf (labelCount (lend f s)) (gapCount (lend f s)) (ragged (lend f s) (length (s .carried))) false (rows (lend f s)) ≡ checked.Pass
+
+passes : Checked → Bool
+passes checked.Pass = true
+passes (checked.Refused q) = false
+
+shows-pass : (c : Checked) → T (passes c) → c ≡ checked.Pass
+unfolding passes
+shows-pass checked.Pass h = refl
+shows-pass (checked.Refused q) h = absurd h
+
+abbrev fits? : (f : Form) (s : bench.Written) → Test (Fits f s)
+fits? f s = record { passes = passes _; shows = shows-pass _ }
+
+-- in both forms
+abbrev FitsBoth : bench.Written → Type 0
+FitsBoth s = (f : Form) → Fits f s
+
+by-form : (s : bench.Written) → Fits as-lists s → Fits as-records s → FitsBoth s
+by-form s a b as-lists = a
+by-form s a b as-records = b
+
+abbrev both? : (s : bench.Written) → Test (FitsBoth s)
+both? s = granted (by-form s) on fits? as-lists s on fits? as-records s
+
+abbrev FitsCase : Case → Type 0
+FitsCase (placed c) = FitsBoth (c .sheet)
+FitsCase (refused c) = FitsBoth (c .sheet)
+FitsCase (moved c) = FitsBoth (c .before .sheet) × FitsBoth (c .after .sheet)
+
+abbrev case? : (c : Case) → Test (FitsCase c)
+case? (placed c) = both? (c .sheet)
+case? (refused c) = both? (c .sheet)
+case? (moved c) = granted (λ a b. (a, b)) on both? (c .before .sheet) on both? (c .after .sheet)
+
+bench-fits : (c : Case) → List·Memᴰ c bench → FitsCase c
+unfolding bench passes tableOf offenderBelow
+bench-fits = each case? bench .shows tt
+
+lent-passes : (f : Form) (s : bench.Written) {w : Written} → LentWith f s w → Fits f s → table (lend f s) w ≡ checked.Pass
+lent-passes f s l fits =
+    ap₂ (λ (n : ℕ) (short : Bool). tableOf (labelCount (lend f s)) (gapCount (lend f s)) (ragged (lend f s) n) short (rows (lend f s)))
+    (ap length (l .carried)) (l .room)
+    ∙ fits
+
+-- ---- both forms tell the sheet that is written
+
+lend-same : (f : Form) (s : bench.Written) → sheetOf (lend f s) ≡ written s
+unfolding sheetOf
+lend-same as-lists s = λ j. record {
+  labels = length (s .wants);
+  gaps = length-map (s .gaps) (λ g. g .left) j;
+  wanted = λ i. getD (s .wants) (i .0) (pos 0);
+  weight = λ i. getD (s .weights) (i .0) (pos 0);
+  gap = λ e. record {
+    left = label (List·getD-map (λ (g : WrittenGap). g .left) (s .gaps) (e .0) (0 to 0 of pos 0) j);
+    right = label (List·getD-map (λ (g : WrittenGap). g .right) (s .gaps) (e .0) (0 to 0 of pos 0) j);
+    distance = List·getD-map (λ (g : WrittenGap). g .distance) (s .gaps) (e .0) (0 to 0 of pos 0) j;
+    kind = at-least;
+  };
+}
+lend-same as-records s = λ j. record {
+  labels = length (s .wants);
+  gaps = length-map (s .gaps) recordOf j;
+  wanted = λ i. getD (s .wants) (i .0) (pos 0);
+  weight = λ i. getD (s .weights) (i .0) (pos 0);
+  gap = λ e. atLeast (List·getD-map recordOf (s .gaps) (e .0) (0 to 0 of pos 0) j);
+}
+
+-- ---- what a call comes to
+
+-- an entry of a list is in the list, and so in one that follows or precedes another
+entry-first : {A : Type 0} (xs ys : List A) (k : ℕ) (none : A) → k < length xs → List·Memᴰ (getD xs k none) (xs ++ ys)
+entry-first [] ys k none h = absurd (omega arith)
+entry-first (x ∷ xs) ys zero none h = List·Memᴰ·head refl
+entry-first (x ∷ xs) ys (suc k) none h = List·Memᴰ·tail (entry-first xs ys k none (omega arith))
+
+entry-second : {A : Type 0} (xs ys : List A) (k : ℕ) (none : A) → k < length ys → List·Memᴰ (getD ys k none) (xs ++ ys)
+entry-second [] (y ∷ ys) zero none h = List·Memᴰ·head refl
+entry-second [] (y ∷ ys) (suc k) none h = List·Memᴰ·tail (entry-second [] ys k none (omega arith))
+entry-second [] [] k none h = absurd (omega arith)
+entry-second (x ∷ xs) ys k none h = List·Memᴰ·tail (entry-second xs ys k none h)
+
+module _ (c : Placed) (right : RightPlaced c) (fits : FitsBoth (c .sheet)) where
+  place-lowest : (i : Label) → i .0 < length (c .sheet .wants) → LowestTerms (placement c i)
+  place-lowest i h = right .lowest (placement c i) (entry-first (c .places) (c .multipliers) (i .0) (whole (pos 0)) (omega (arith, right .per-label)))
+
+  multiplier-lowest : (e : GapNumber) → e .0 < length (c .sheet .gaps) → LowestTerms (multipliers c e)
+  multiplier-lowest e h = right .lowest (multipliers c e) (entry-second (c .places) (c .multipliers) (e .0) (whole (pos 0)) (omega (arith, right .per-gap)))
+
+  module _ (f : Form) (w : Written) (a : Answer) (after : Written) (l : LentWith f (c .sheet) w) (promise : Promise (lend f (c .sheet)) w a after) where
+    same : sheetOf (lend f (c .sheet)) ≡ written (c .sheet)
+    same = lend-same f (c .sheet)
+
+    passed : table (lend f (c .sheet)) w ≡ checked.Pass
+    passed = lent-passes f (c .sheet) l (fits f)
+
+    known : (a ≡ answer.Placed) × ((i : Label) → i .0 < length (c .sheet .wants) → placeOf after i ≡ placement c i)
+    known =
+        places-known promise passed (placement c) (multipliers c)
+        (subst (λ (s : Sheet). Conditions s (placement c) (multipliers c)) (sym same) (right .conditions)) place-lowest
+
+    accepted : Accepted (sheetOf (lend f (c .sheet))) w after
+    accepted = placed-accepted promise (known .0)
+
+    -- the multipliers written meet the conditions with the document's places
+    conditions : Conditions (written (c .sheet)) (placement c) (multiplierOf after)
+    conditions =
+        conditions-places (subst Proper same (passed-proper (lend f (c .sheet)) w passed)) (known .1)
+        (subst (λ (s : Sheet). Conditions s (placeOf after) (multiplierOf after)) same (accepted .conditions))
+
+    multipliers-known : (by : Source) → OnlyMultipliers c by → MultipliersSo c by after
+    multipliers-known given only = λ e h.
+        lowest-unique (multiplierOf after e) (multipliers c e)
+        (accepted .multipliers-lowest e (subst (λ (s : Sheet). e .0 < s .gaps) (sym same) h)) (multiplier-lowest e h)
+        (only (multiplierOf after) conditions e h)
+    multipliers-known worked-out only = tt
+
+    placed-once : PlacedSo c a after
+    placed-once = record { answered = known .0; places = known .1; multipliers-so = multipliers-known (c .source) (right .only) }
+
+  placed-so : EachCall (c .sheet) (PlacedSo c)
+  placed-so f w a after l promise = placed-once f w a after l promise
+
+module _ (c : Refused) (right : RightRefused c) (fits : FitsBoth (c .sheet)) where
+  refused-so : EachCall (c .sheet) (RefusedSo c)
+  refused-so f w a after l promise =
+      judged promise (lent-passes f (c .sheet) l (fits f))
+      (λ _ accepted. absurd (right .none (placeOf after) (subst (λ (s : Sheet). Feasible s (placeOf after)) same (accepted .least .feasible))))
+      (λ told _ ring.
+      told
+      ∙ ap (refusal 9 0)
+      (ring .counted ∙ ap suc (sym (length-map (ring .others) forwards))
+      ∙ right .only (forwards (ring .first)) (map forwards (ring .others))
+      (subst (λ (s : Sheet). Ring s (forwards (ring .first)) (map forwards (ring .others))) same (ring .ring)))
+      ∙ ap (λ (n : ℕ). refusal n 0 (length (c .ring))) (sym (right .number)))
+    where
+      same : sheetOf (lend f (c .sheet)) ≡ written (c .sheet)
+      same = lend-same f (c .sheet)
+
+answered-so : (c : Case) → bench.RightCase c → FitsCase c → AnsweredSo c
+answered-so (placed c) right fits = placed-so c right fits
+answered-so (refused c) right fits = refused-so c right fits
+answered-so (moved c) right fits = (placed-so (c .before) (right .before) (fits .0), placed-so (c .after) (right .after) (fits .1))
+
+-- every call on a sheet of the bench that keeps its promise answers as document 01 says
+pub bench-answers : (c : Case) → List·Memᴰ c bench → AnsweredSo c
+bench-answers c m = answered-so c (bench-right c m) (bench-fits c m)
