@@ -4,10 +4,8 @@ use Prim.Native.Nat.{ℕ, _<_}
 use mathlib.Core.Path.{_≡_, refl, sym, _∙_, ap, subst}
 use mathlib.Core.Logic.{_↔_, ⊎-elim}
 use native.Mathlib.Omega.{arith}
-use native.Mathlib.Nat.{eq-one-of-dvd-one}
-use lib.IntN.{ℤ}
 use Rattle.ground.specs.declared.Refusal.{Refusal}
-use Rattle.exact.specs.Fraction.{LowestTerms, whole}
+use Rattle.exact.specs.Fraction.{LowestTerms}
 use Rattle.exact.proofs.Divisor.{lowest-unique}
 use Rattle.ground.specs.declared.Label.{Label}
 use Rattle.least_move.specs.Sheet.{Proper}
@@ -32,7 +30,7 @@ not-both e f = let z : _≡_ {A = ℕ} 0 1 = cc in omega arith
 
 module _ {r : Read} {w after : Written} {a : Answer} (promise : Promise r w a after) where
   -- a sheet that the table refuses has the table's number and place, and nothing is written
-  pub refused-by-table : {q : Refusal} → table r w ≡ checked.Refused q → (a ≡ Refused q) × (after ≡ w)
+  pub refused-by-table : {q : Refusal} → table r w ≡ checked.Refused q → (a ≡ refusal (q .number) (q .place) 0) × (after ≡ w)
   refused-by-table e = subst (λ v. ByTable v (sheetOf r) w a after) e (promise .kept)
 
   -- any other sheet is placed, or no placement meets all its gaps
@@ -92,7 +90,3 @@ module _ {r : Read} {w after : Written} {a : Answer} (promise : Promise r w a af
       let placed : a ≡ Placed = placed-exactly e .1 (p, c .feasible) in
       let written : Accepted (sheetOf r) w after = placed-accepted placed in
       (placed, λ i h. sym (least-same lowest-unique (sheetOf r) p (placeOf after) m (passed-proper r w e) c (written .least) i h (lowest i h) (written .places-lowest i h)))
-
--- whole numbers are in lowest terms
-pub whole-lowest : (z : ℤ) → LowestTerms (whole z)
-whole-lowest z = record { above = record { lt = tt }; reduced = λ k p q. eq-one-of-dvd-one q }

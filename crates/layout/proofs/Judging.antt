@@ -30,13 +30,14 @@ use Rattle.core_project.proofs.Agreeing.{Agree, conditions-agree, marks-agree, 
 use Rattle.ground.specs.declared.Answer.{Answer}
 use Rattle.ground.specs.declared.Answer.the-variants.{Placed, Refused}
 use Rattle.ground.specs.declared.Refusal.{Refusal}
-use Rattle.sheet_checks.specs.Lent.{Read, Written, lists, sheetOf, placeOf, multiplierOf}
+use Rattle.sheet_checks.specs.Lent.{Read, Written, sheetOf, placeOf, multiplierOf}
 use Rattle.sheet_checks.specs.declared.Checked.the-variants as checked
-use Rattle.sheet_checks.specs.Refusals.{outside, unequal, table}
+use Rattle.sheet_checks.specs.Refusals.{outside, unequal, rows, table}
 use Rattle.layout.specs.Answered.{answerOf}
 use Rattle.layout.specs.Promise.{Promise, ByTable, Judged, Accepted, RingGiven, forwards}
 use Rattle.ground.specs.Answers.{refusal}
 use Rattle.sheet_checks.proofs.Passed.{Passed, table-passed, or-clear, same-of-not, ends-in, passed-proper}
+use Rattle.sheet_checks.proofs.Told.{table-ringless}
 use Rattle.sheet_checks.proofs.CheckLaws.{readOf}
 
 -- ---- tests of one number
@@ -237,8 +238,11 @@ ring-answered found size e = sym (ap answerOf e)
 
 -- ---- the promise
 
-pub refused-kept : {r : Read} {w : Written} {a : Answer} {q : Refusal} → checked.Refused q ≡ table r w → a ≡ Refused q → Promise r w a w
-refused-kept {r} {w} {a} e k = record { kept = subst (λ v. ByTable v (sheetOf r) w a w) e (k, refl) }
+pub refused-kept : {r : Read} {w : Written} {q : Refusal} → checked.Refused q ≡ table r w → Promise r w (Refused q) w
+refused-kept {r} {w} {q} e = record { kept = subst (λ v. ByTable v (sheetOf r) w (Refused q) w) e (told, refl) }
+  where
+    told : Refused q ≡ refusal (q .number) (q .place) 0
+    told = ap (λ (n : ℕ). refusal (q .number) (q .place) n) (table-ringless _ _ _ _ (rows r) (sym e))
 
 pub judged-kept : {r : Read} {w after : Written} {a : Answer} → checked.Pass ≡ table r w → Judged (sheetOf r) w a after → Promise r w a after
 judged-kept {r} {w} {after} {a} e j = record { kept = subst (λ v. ByTable v (sheetOf r) w a after) e j }

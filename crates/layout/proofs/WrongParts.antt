@@ -1,26 +1,32 @@
 -- The wrong parts of document 01, "What is owed by each public entry", 3: each breaks the promise of a layout call.
-use Prim.Native.Nat.{ℕ, _<_}
+use Prim.Native.Nat.{ℕ, _≤_, _<_}
 use mathlib.Core.Path.{_≡_, refl, sym, _∙_, ap}
 use mathlib.Core.Logic.{_≢_}
-use mathlib.Core.List.{List, [], _∷_, List·Memᴰ, List·Memᴰ·head, List·Memᴰ·tail}
+use mathlib.Core.List.{List, [], _∷_, List·Memᴰ·head, List·Memᴰ·tail}
 use native.Mathlib.Omega.{arith}
+use borrow.Author.Tests.{le-leb, lt-leb}
 use lib.Dec.{lit<}
-use lib.ListN.{length, replicate}
+use lib.Seq.{length-take-le}
+use lib.ListN.{length, replicate, take}
 use lib.IntN.{ℤ, pos, natAbs}
 use Rattle.exact.specs.declared.Fraction.{Fraction}
 use Rattle.ground.specs.declared.Refusal.{Refusal}
 use Rattle.ground.specs.declared.Label.{Label}
 use Rattle.least_move.specs.Sheet.{label}
 use Rattle.least_move.specs.Placement.{Placement}
-use Rattle.least_move.specs.Bench.{Case, placed, refused, bench, minus, placement, P1, P2, P5, P7}
+use Rattle.least_move.specs.Bench.{placed, refused, bench, placement, P1, P2, P5, P7}
 use Rattle.least_move.specs.Bench as bench
 use Rattle.ground.specs.declared.Answer.{Answer}
 use Rattle.ground.specs.declared.Answer.the-variants.{Placed, Refused}
 use Rattle.sheet_checks.specs.Lent.{LentGaps, lists, records, Read, Written, labelCount, placeOf}
+use Rattle.layout.specs.Part.{filledPart}
 use Rattle.layout.specs.Promise.{Promise}
-use Rattle.layout.specs.BenchCalls.{Form, as-lists, as-records, lend, lendGaps, LentWith, EachCall, PlacedSo, RefusedSo}
+use Rattle.layout.specs.BenchCalls.{Form, as-lists, as-records, lend, LentWith, EachCall, PlacedSo, RefusedSo}
 use Rattle.ground.specs.Answers.{ringLengthOf}
-use Rattle.layout.proofs.Facts.{not-both}
+use Rattle.sheet_checks.specs.declared.Checked.the-variants as checked
+use Rattle.sheet_checks.specs.Refusals.{table}
+use Rattle.sheet_checks.proofs.Passed.{not-pass}
+use Rattle.layout.proofs.Facts.{not-both, placed-passes}
 use Rattle.layout.proofs.BenchCalls.{bench-answers}
 
 -- ---- what calls on P1, P2, P5 and P7 come to
@@ -142,3 +148,21 @@ hands-out-again part f f′ w w′ l l′ again keeps =
     apart {q = placement P1 (label 0)} {r = placement P5 (label 0)} (λ e. omega arith)
     (again (label 0) (lit< tt) ∙ P1-lays f w _ _ l (kept f (part []) (keeps [] .0) (P1 .sheet) w) .places (label 0) (lit< tt))
     (P5-lays f′ w′ _ _ l′ (kept f′ (part ((lend f (P1 .sheet), w) ∷ [])) (keeps ((lend f (P1 .sheet), w) ∷ []) .1) (P5 .sheet) w′) .places (label 0) (lit< tt))
+
+-- a sheet that breaks a rule is called placed
+pub called-placed : {r : Read} {w after : Written} {q : Refusal} → table r w ≡ checked.Refused q → ¬ (Promise r w Placed after)
+called-placed breaks promise = not-pass (sym breaks ∙ placed-passes promise refl)
+
+-- ---- the part of the ring buffer that is handed back
+
+-- one of another length
+pub other-length : (ring part : List ℕ) (size : ℕ) → part ≡ filledPart ring size → size ≤ length ring → length part ≢ size → ⊥
+other-length ring part size e within other =
+    let filled : filledPart ring size ≡ take size ring = simp (le-leb size (length ring) within) in
+    other (ap length (e ∙ filled) ∙ length-take-le size ring within)
+
+-- one that is not empty, for a length beyond the buffer
+pub beyond-the-buffer : (ring part : List ℕ) (size : ℕ) → part ≡ filledPart ring size → length ring < size → length part ≢ 0 → ⊥
+beyond-the-buffer ring part size e beyond other =
+    let empty : filledPart ring size ≡ [] = simp (lt-leb size (length ring) beyond) in
+    other (ap length (e ∙ empty))

@@ -11,7 +11,7 @@ use lib.IntN.{natAbs}
 use Rattle.exact.specs.Fraction.{LowestTerms}
 use Rattle.ground.specs.Limits.{placeDenMost, placeMost}
 use Rattle.ground.specs.declared.Answer.{Answer}
-use Rattle.ground.specs.declared.Answer.the-variants.{Placed, Refused}
+use Rattle.ground.specs.declared.Answer.the-variants.{Placed}
 use Rattle.ground.specs.declared.Label.{Label}
 use Rattle.ground.specs.declared.GapNumber.{GapNumber}
 use Rattle.least_move.specs.Sheet.{Sheet, gapNumber}
@@ -22,7 +22,7 @@ use Rattle.least_move.specs.Ring.{Ring}
 use Rattle.sheet_checks.specs.declared.Checked.{Checked}
 use Rattle.sheet_checks.specs.declared.Checked.the-variants as checked
 use Rattle.sheet_checks.specs.Lent.{Read, Written, sheetOf, placeOf, multiplierOf}
-use Rattle.sheet_checks.specs.Refusals.{table}
+use Rattle.sheet_checks.specs.Refusals.{refusedNumber, refusedPlace, table}
 use Rattle.ground.specs.Entries.{Filled}
 use Rattle.ground.specs.Answers.{ringLengthOf, refusal}
 
@@ -73,9 +73,10 @@ Judged s w a after =
     ((a ≡ Placed) × Accepted s w after)
     ⊎ ((a ≡ refusal 9 0 (ringLengthOf a)) × ((p : Placement) → ¬ (Feasible s p)) × RingGiven s w after (ringLengthOf a))
 
--- what the table refuses has its number and its place: "A refused call writes nothing"
+-- what the table refuses has the check's number and place, and no ring: "A refused call writes nothing"
 abbrev pub ByTable : Checked → Sheet → Written → Answer → Written → Type 0
-ByTable (checked.Refused refused) s w a after = (a ≡ Refused refused) × (after ≡ w)
+ByTable (checked.Refused q) s w a after =
+    (a ≡ refusal (refusedNumber (checked.Refused q)) (refusedPlace (checked.Refused q)) 0) × (after ≡ w)
 ByTable checked.Pass s w a after = Judged s w a after
 
 -- the whole promise of a layout call

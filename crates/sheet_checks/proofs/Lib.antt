@@ -1,3 +1,4 @@
 pub mod Passed
+pub mod Told
 pub mod CheckLaws
 pub mod WrongChecks

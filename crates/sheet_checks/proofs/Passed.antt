@@ -22,7 +22,7 @@ use Rattle.sheet_checks.specs.Lent.{Read, Written, labelCount, gapCount,
 use Rattle.sheet_checks.specs.Refusals.{Row, refuse, firstOf, inTurn, test, offenderBelow, offender, sizeTests, tableOf, unequal, outside, roomOf, ragged, short, offPlate, badWeight, stranger, badGap, rows, table}
 
 -- a refusal is no pass
-not-pass : {q : Refusal} → Refused q ≡ Pass → ⊥
+pub not-pass : {q : Refusal} → Refused q ≡ Pass → ⊥
 not-pass e = let z : _≡_ {A = ℕ} 0 1 = cc in omega arith
 
 -- a test that passed was false

@@ -18,13 +18,13 @@ use Rattle.ground.specs.Limits.{distanceMost, gapsMost, labelsMost, wantedMost,
 -- ---- what a check answers
 
 -- document 01's number for each case of a check's answer, and its place: each 0 where it passes
-abbrev pub numberOf : Checked → ℕ
-numberOf Pass = 0
-numberOf (Refused r) = r .number
+abbrev pub refusedNumber : Checked → ℕ
+refusedNumber Pass = 0
+refusedNumber (Refused r) = r .number
 
-abbrev pub placeOf : Checked → ℕ
-placeOf Pass = 0
-placeOf (Refused r) = r .place
+abbrev pub refusedPlace : Checked → ℕ
+refusedPlace Pass = 0
+refusedPlace (Refused r) = r .place
 
 -- "refused with its number and its place"
 abbrev pub refuse : (number place : ℕ) → Checked

@@ -106,7 +106,7 @@ module _ (c : Counts) (l : Lists) (few : c .labels ≤ 48) (known : c .labels �
 
       go : (v : Checked) → table (sheetRead c l) w ≡ v → p ≡ q
       go (checked.Refused r) e =
-          both-refused (r .number) (r .place) (r .ring) (r .ring) (refused-by-table (one .promise) e .0) (refused-by-table (two .promise) (tables ∙ e) .0)
+          both-refused (r .number) (r .place) 0 0 (refused-by-table (one .promise) e .0) (refused-by-table (two .promise) (tables ∙ e) .0)
       go checked.Pass e = passed e
 
 -- the whole: two runs on one text print the same, whatever stood in their buffers, so a text has one listing

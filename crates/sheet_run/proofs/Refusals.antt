@@ -3,7 +3,7 @@ use Prim.Native.Nat.{ℕ, zero, suc, _+_, _≤_, _<_}
 use mathlib.Core.Path.{_≡_, refl, sym, subst}
 use mathlib.Core.Logic.{⊎-elim}
 use mathlib.Core.Bool.{Bool, true, false, cond, _&&_}
-use mathlib.Core.List.{List, [], _∷_, _++_, map}
+use mathlib.Core.List.{List, [], _∷_}
 use native.Mathlib.Omega.{arith}
 use lib.Dec.{eqb, ltb}
 use lib.ListN.{length, length-append, length-map}
@@ -11,12 +11,11 @@ use borrow.Author.Tests.{ltb-false}
 use Rattle.ground.specs.declared.Refusal.{Refusal}
 use Rattle.ground.specs.declared.Answer.{Answer}
 use Rattle.ground.specs.declared.Answer.the-variants as answer
-use Rattle.ground.specs.Entries.{Each}
-use Rattle.ground.specs.Limits.{gapsMost, labelsMost}
 use Rattle.sheet_checks.specs.declared.Checked.{Checked}
 use Rattle.sheet_checks.specs.declared.Checked.the-variants as checked
 use Rattle.sheet_checks.specs.Lent.{Read, Written, labelCount, gapCount, sheetOf}
-use Rattle.sheet_checks.specs.Refusals.{firstOf, inTurn, refuse, offenderBelow, offender, sizeTests, tableOf, roomOf, ragged, short, offPlate, badWeight, stranger, badGap, rows, table}
+use Rattle.sheet_checks.specs.Refusals.{roomOf, ragged, short, rows, table}
+use Rattle.sheet_checks.proofs.Told.{Told, table-told}
 use Rattle.layout.specs.Promise.{Promise, ByTable}
 use Rattle.text_rows.specs.declared.Taken.{Taken}
 use Rattle.text_rows.specs.declared.Taken.the-variants.{Good, Bad}
@@ -102,53 +101,11 @@ small-reading text b = go (ltb textMost (length text)) refl
 
 -- ---- a sheet
 
-abbrev SmallCheck : Checked → Type 0
-SmallCheck checked.Pass = Unit {0}
-SmallCheck (checked.Refused r) = Small r
-
-small-first : (c later : Checked) → SmallCheck c → SmallCheck later → SmallCheck (firstOf c later)
-small-first checked.Pass later s t = t
-small-first (checked.Refused r) later s t = s
-
-small-turn : (cs : List Checked) → Each SmallCheck cs → SmallCheck (inTurn cs)
-small-turn [] s = tt
-small-turn (c ∷ cs) s = small-first c (inTurn cs) (s .0) (small-turn cs (s .1))
-
--- a refusal, if it is met
-small-met : (number place : ℕ) → number ≤ 11 → place ≤ textMost → (bad : Bool) → SmallCheck (cond bad (refuse number place) checked.Pass)
-small-met number place h l true = (h, l)
-small-met number place h l false = tt
-
-small-offender : (number : ℕ) → number ≤ 11 → (n : ℕ) → n ≤ textMost → (bad : ℕ → Bool) → SmallCheck (offenderBelow number n bad)
-unfolding offenderBelow
-small-offender number h zero l bad = tt
-small-offender number h (suc n) l bad = small-first (offenderBelow number n bad) (cond (bad n) (refuse number n) checked.Pass) (small-offender number h n (omega arith) bad) (small-met number n h (omega arith) (bad n))
-
-small-table : (r : Read) (w : Written) → labelCount r ≤ textMost → gapCount r ≤ textMost → SmallCheck (table r w)
-unfolding tableOf
+small-table : (r : Read) (w : Written) → labelCount r ≤ textMost → gapCount r ≤ textMost → Told Small (table r w)
 small-table r w l g =
-    small-turn (sizeTests (labelCount r) (gapCount r) (ragged r (length (w .carried))) (short (labelCount r) (gapCount r) (roomOf w)) ++ map offender (rows r)) (
-      small-met 1 0 (omega arith) (omega arith) (ltb labelsMost (labelCount r)),
-      (
-        small-met 2 0 (omega arith) (omega arith) (ltb gapsMost (gapCount r)),
-        (
-          small-met 3 0 (omega arith) (omega arith) (ragged r (length (w .carried))),
-          (
-            small-met 4 0 (omega arith) (omega arith) (short (labelCount r) (gapCount r) (roomOf w)),
-            (
-              small-offender 5 (omega arith) (labelCount r) l (offPlate r .bad),
-              (
-                small-offender 6 (omega arith) (labelCount r) l (badWeight r .bad),
-                (
-                  small-offender 7 (omega arith) (gapCount r) g (stranger r .bad),
-                  (small-offender 8 (omega arith) (gapCount r) g (badGap r .bad), tt),
-                ),
-              ),
-            ),
-          ),
-        ),
-      ),
-    )
+    table-told Small (labelCount r) (gapCount r) (ragged r (length (w .carried))) (short (labelCount r) (gapCount r) (roomOf w)) (rows r)
+    ((omega arith, omega arith), (omega arith, omega arith), (omega arith, omega arith), (omega arith, omega arith))
+    ((λ k h. (omega arith, omega arith)), ((λ k h. (omega arith, omega arith)), ((λ k h. (omega arith, omega arith)), ((λ k h. (omega arith, omega arith)), tt))))
 
 abbrev pub SmallAnswer : Answer → Type 0
 SmallAnswer answer.Placed = Unit {0}
@@ -158,7 +115,7 @@ SmallAnswer (answer.Refused r) = Small r
 pub small-answer : (r : Read) (w : Written) (a : Answer) (after : Written) → labelCount r ≤ textMost → gapCount r ≤ textMost → Promise r w a after → SmallAnswer a
 small-answer r w a after l g p = go (table r w) (small-table r w l g) (p .kept)
   where
-    go : (v : Checked) → SmallCheck v → ByTable v (sheetOf r) w a after → SmallAnswer a
+    go : (v : Checked) → Told Small v → ByTable v (sheetOf r) w a after → SmallAnswer a
     go (checked.Refused q) s k = subst SmallAnswer (sym (k .0)) s
     go checked.Pass s k =
         ⊎-elim

@@ -1,5 +1,5 @@
 -- `layout::lists::lay_out` meets its contract: the checks answer by the table, and a sheet that passes is judged.
-use mathlib.Core.Path.{refl, sym, _∙_}
+use mathlib.Core.Path.{sym, _∙_}
 use borrow.Author.Needs.{needs}
 use Rattle.layout.proofs.Judging.{refused-kept, judged-kept}
 use Rattle.layout.proofs.lists.lay_out.Statement.{statement}
@@ -20,7 +20,7 @@ place-requires c κs =
     sym (d .before .before .check .ensures) ∙ d .enum-told .given .1
 
 returns : tie.Need-returns
-returns c = refused-kept (sym (c .before .checked .given .1) ∙ c .before .before .before .check .ensures) refl
+returns c = refused-kept (sym (c .before .checked .given .1) ∙ c .before .before .before .check .ensures)
 
 same-length : tie.Need-same-length
 same-length c = search needs
