@@ -102,6 +102,19 @@ static Sheet tiny(Dice &d) {
     return s;
 }
 
+// 48 labels wanted against the order of their 192 gaps, as on a strip that was typed backwards. Nearly all of them meet, and the guess
+// of the layout call fails on most of these sheets: the outer loop finishes them.
+static Sheet hard(Dice &d) {
+    Sheet s;
+    for (int i = 0; i < 48; i++) s.label(8000 * (23 - i), d.from(1, 10));
+    for (int i = 0; i < 47; i++) s.gap(i, i + 1, d.from(0, 300));
+    while (s.left.size() < 192) {
+        uint64_t u = d.from(0, 46), v = d.from(u + 1, 47);
+        s.gap(u, v, d.from(0, 300));
+    }
+    return s;
+}
+
 static double now() {
     timespec t;
     clock_gettime(CLOCK_MONOTONIC, &t);
@@ -262,4 +275,5 @@ int main() {
     family("equalities", equalities, 100, 3);
     family("chain", chain, 1, 4);
     family("tiny", tiny, 100, 5);
+    family("hard", hard, 100, 6);
 }

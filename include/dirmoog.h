@@ -6,8 +6,8 @@
  * and any contents may be lent, and every call returns. The calls keep no state, so threads may call them at once.
  *
  * The caller sees to the stack: nothing checks that there is enough. Arguments and return address included,
- * dirmoog_layout needs at most 18,248 bytes, dirmoog_read 5,576, dirmoog_listing 4,176 and dirmoog_round 8. What
- * memcpy and memset need comes on top: a first call that has them looked up took 608 bytes more. 32 KiB are enough.
+ * dirmoog_layout needs at most 18,232 bytes, dirmoog_read 5,576, dirmoog_listing 4,176 and dirmoog_round 8. What
+ * memcpy and memset need comes on top: a first call that has them looked up took 624 bytes more. 32 KiB are enough.
  *
  * Every call returns 0, or the number of a refusal. A refused call writes nothing but what its comment names.
  *
@@ -63,6 +63,10 @@ extern "C" {
  *
  * 0, placed: the first entries of place_num, place_den, mult_num and mult_den hold fractions in lowest terms with a
  *   denominator above zero, and carried holds 1 for marked gaps, else 0. Entries beyond stay, and so does ring. out is 0, 0.
+ *   A place has a denominator of at most 4,800 and lies within 1,140,000 of zero, so that dirmoog_round refuses none.
+ *   Multipliers show that no other places cost less: none is negative, one is 0 where its gap is not tight, and for each
+ *   label 2 x weight x (place - wanted) is the sum over the gaps with it on the right less that over those with it on the
+ *   left. Marked gaps are tight, no ring can be walked along them, and an unmarked gap has multiplier 0.
  * 9, ring: the first entries of ring, out[1] many, hold gap numbers such that each gap's right label is the next one's
  *   left, the last joins the first, no label is a left label twice, and the distances sum above zero. out is 0 and the
  *   ring's length. All else stays.
@@ -92,8 +96,10 @@ uint64_t dirmoog_round(int64_t num, int64_t den, int64_t *out, size_t out_len);
  * Reads a sheet's text into lists. Refused with 11, 10, 1, 2 or 4.
  *
  * The text is comma-separated records, each ended by CRLF or LF; the last end may lack. A record has four fields: "label",
- * its number, wanted place, weight; or "gap", left, right, distance. A number is 1 to 9 digits, with a minus sign in front
- * only in a wanted place or a distance. A blank weight is 1. Label numbers run 0, 1, 2; gaps are numbered in their order.
+ * its number, wanted place, weight; or "gap", left, right, distance. A number is 1 to 9 digits, leading zeros allowed, with
+ * a minus sign in front only in a wanted place or a distance. A blank weight is 1. Label numbers run 0, 1, 2; gaps are
+ * numbered in their order, and a gap may come before the labels it names. Quotes, blank lines, any other blank field and a
+ * CR that is not just before a LF make a bad line.
  *
  *   text       the bytes of the text; none are a sheet of no labels
  *   wanted, weight            one entry per label is written

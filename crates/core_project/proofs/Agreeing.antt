@@ -24,10 +24,11 @@ use Rattle.least_move.specs.Sheet.{Sheet, Gap, ignored, label, gapNumber}
 use Rattle.least_move.specs.Placement.{Placement, Holds, Tight}
 use Rattle.least_move.specs.Multipliers.{Multipliers, Conditions, Lawful, counted, asRight, asLeft}
 use Rattle.least_move.specs.Marks.{Step, start, finish, Leads, Marks, MarkedRing}
-use Rattle.least_move.specs.Ring.{Ring, Passable, distanceOf, lengthOf, OnceLeft}
+use Rattle.least_move.specs.Ring.{Ring, Passable, distanceOf, distanceSum, OnceLeft}
 use Rattle.ground.specs.Entries.{nat, int, Each}
 use Rattle.core_forest.specs.Problem.{Problem, Limits, kindOf, marksOf, sheetFrom}
 use Rattle.core_balance.specs.Places.{DenMost}
+use Rattle.core_balance.proofs.Placing.{den-limit}
 use Rattle.core_ring.specs.Way.{stepsOf, IsRing}
 use Rattle.core_settle.specs.Settle.{RingStands}
 use Rattle.core_project.specs.Core.{Asked, CorePlaced}
@@ -131,7 +132,7 @@ module _ {s t : Sheet} (a : Agree s t) where
   once-agree (r ∷ rs) h o =
       (each-map₂ (λ u l ne e. ne (start-agree u l ∙ e ∙ sym (start-agree r (h .0)))) rs (h .1) (o .0), once-agree rs (h .1) (o .1))
 
-  length-agree : (rs : List Step) → Each (InGaps s) rs → lengthOf s rs ≡ lengthOf t rs
+  length-agree : (rs : List Step) → Each (InGaps s) rs → distanceSum s rs ≡ distanceSum t rs
   length-agree [] h = refl
   length-agree (r ∷ rs) h = ap₂ _+ℤ_ distances (length-agree rs (h .1))
     where
@@ -349,7 +350,7 @@ module _
         place-dens = places .lowers;
         mult-nums = mults .uppers;
         mult-dens = mults .lowers;
-        carried = marks .filled .size;
+        carried = marks .filled;
         ring = refl;
         back = refl;
         conditions = conditions-agree work-agrees (core .conditions _ _ (record { places = places .reduced; multipliers = mults .reduced }));
@@ -360,9 +361,13 @@ module _
         den-most = λ i h. den-given (places .reduced i h) (core .den-least i h) (core .den-most i h);
         num-most = λ i h B most. reduced-num (places .reduced i h) (core .den-least i h) (B + 940000) (core .num-most i h B (λ j l. subst (λ z. natAbs z ≤ B) (sym (copied .wants-in j l)) (most j l)));
         asked = asked-agree work-agrees same-marks (core .asked);
-        mult-den-most = λ e h. den-given (mults .reduced e h) (core .over-least e h) (core .over-most e h);
+        mult-den-most = mult-den;
+        mult-den-size = λ e h. den-limit (ready .limits) (int md e) (mult-den e h);
       }
     where
+      mult-den : (e : ℕ) → e < length left → DenMost given (int md e)
+      mult-den e h = den-given (mults .reduced e h) (core .over-least e h) (core .over-most e h)
+
       same-marks : (e : GapNumber) → e .0 < length left → marksOf mark (e .0) ≡ marksOf carried′ (e .0)
       same-marks e h = ap (λ x. eqb x 1) (sym (marks .written (e .0) h))
 

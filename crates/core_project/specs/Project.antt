@@ -18,7 +18,7 @@ use Rattle.core_ring.specs.Way.{stepsOf, IsRing}
 use Rattle.core_project.specs.declared.Projected.{Projected}
 use Rattle.core_project.specs.declared.Projected.the-variants.{Placed, Ring}
 use Rattle.core_project.specs.Core.{Asked, fraction}
-use Rattle.ground.specs.Limits.{offsetMost}
+use Rattle.ground.specs.Limits.{blockWeightMost, offsetMost}
 use denote.Triple.Both.{Both}
 use Rattle.ground.specs.Views.{Param}
 use denote.Ref.{RefT, now}
@@ -27,6 +27,7 @@ use denote.Ref.{RefT, now}
 abbrev pub Copied : {A : Type 0} (n : ℕ) (from to : List A) (none : A) → Type 0
 Copied n from to none = (k : ℕ) → k < n → getD to k none ≡ getD from k none
 
+-- a list is written to the front of a lent one, and so are fractions, in lowest terms
 pub record FrontWritten {A : Type 0} (n : ℕ) (from before after : List A) (none : A) : Type 0 where
   pub filled : Filled n before after
   pub written : (k : ℕ) → k < n → getD after k none ≡ getD from k none
@@ -71,12 +72,13 @@ multiplierIn b e = fraction (b .mult-num) (b .mult-den) (e .0)
 abbrev pub markIn : Buffers → GapNumber → Bool
 markIn b e = marksOf (b .carried) (e .0)
 
+-- every label is placed: the front of each buffer is written, what lies behind it stays, and so do the ring buffers
 pub record Solved (p : Problem) (b after : Buffers) : Type 0 where
   pub place-nums : Filled (p .labels) (b .place-num) (after .place-num)
   pub place-dens : Filled (p .labels) (b .place-den) (after .place-den)
   pub mult-nums : Filled (p .gaps) (b .mult-num) (after .mult-num)
   pub mult-dens : Filled (p .gaps) (b .mult-den) (after .mult-den)
-  pub carried : length (after .carried) ≡ length (b .carried)
+  pub carried : Filled (p .gaps) (b .carried) (after .carried)
   pub ring : after .ring ≡ b .ring
   pub back : after .back ≡ b .back
   pub conditions : Conditions (sheetFrom p) (placeIn after) (multiplierIn after)
@@ -84,16 +86,18 @@ pub record Solved (p : Problem) (b after : Buffers) : Type 0 where
   pub bytes : (e : ℕ) → e < p .gaps → nat (after .carried) e ≤ 1
   pub places-lowest : (i : Label) → i .0 < p .labels → LowestTerms (placeIn after i)
   pub multipliers-lowest : (e : GapNumber) → e .0 < p .gaps → LowestTerms (multiplierIn after e)
-  -- every place is over at most 48 times the largest weight, and within the largest want and 940,000 of zero
+  -- a place has a denominator of at most 48 times the largest weight, and lies within the largest want and 940,000 of zero
   pub den-most : (i : ℕ) → i < p .labels → DenMost p (int (after .place-den) i)
   pub num-most :
       (i : ℕ) → i < p .labels → (B : ℕ) → ((j : ℕ) → j < p .labels → natAbs (int (p .wanted) j) ≤ B) →
       natAbs (int (after .place-num) i) ≤ (B + offsetMost) * natAbs (int (after .place-den) i)
   -- a marked gap is never of the kind ignored
   pub asked : Asked (sheetFrom p) (markIn after)
-  -- every multiplier is over at most 48 times the largest weight
+  -- a multiplier has such a denominator too, and so one of at most 172,800
   pub mult-den-most : (e : ℕ) → e < p .gaps → DenMost p (int (after .mult-den) e)
+  pub mult-den-size : (e : ℕ) → e < p .gaps → natAbs (int (after .mult-den) e) ≤ blockWeightMost
 
+-- a ring: it stands in the front of the two ring buffers, and everything else stays
 pub record RingGiven (p : Problem) (b after : Buffers) (size : ℕ) : Type 0 where
   pub some : 0 < size
   pub most : size ≤ p .labels
@@ -113,6 +117,7 @@ pub record RingGiven (p : Problem) (b after : Buffers) (size : ℕ) : Type 0 whe
   -- every byte of the front is 0 or 1
   pub back-bytes : (k : ℕ) → k < size → nat (after .back) k ≤ 1
 
+-- what the core owes for its answer
 abbrev pub SaysOf : Problem → Projected → (b after : Buffers) → Type 0
 SaysOf p Placed b after = Solved p b after
 SaysOf p (Ring size) b after = RingGiven p b after size

@@ -14,8 +14,9 @@ use Rattle.algebra.proofs.Whole.{*ℤ-lt-cancel}
 use Rattle.algebra.proofs.Ring.{ring, quotes}
 use Rattle.least_move.specs.Sheet.{Sheet, Kind, at-least, exactly, ignored, label}
 use Rattle.least_move.specs.Marks.{Step, start, finish, Leads}
-use Rattle.least_move.specs.Ring.{Ring, Passable, distanceOf, lengthOf, OnceLeft}
-use Rattle.least_move.specs.Bench.{RingOf, forwards}
+use Rattle.least_move.specs.Ring.{Ring, Passable, distanceOf, distanceSum, OnceLeft}
+use Rattle.least_move.specs.Bench.{RingOf}
+use Rattle.least_move.specs.Marks.{forwards}
 use Rattle.least_move.specs.States.{viol, Numbers, Pushed, Pushes}
 use Rattle.core_forest.specs.Tree.{Linked}
 use Rattle.ground.specs.Entries.{nat, int, Each}
@@ -179,7 +180,7 @@ pub record Walked (s : Sheet) (rank : ℕ → ℕ) (N : ℤ) (X : ℕ → ℤ) (
   pub low : Each (λ t. rank (start s t .0) ≤ rank x) ts
   pub away : Each (λ t. start s t .0 ≢ a) ts
   pub once : OnceLeft s ts
-  pub sum : N *ℤ lengthOf s ts ≡ X a -ℤ X x
+  pub sum : N *ℤ distanceSum s ts ≡ X a -ℤ X x
 
 walked-none : (s : Sheet) (rank : ℕ → ℕ) (N : ℤ) (X : ℕ → ℤ) (a x : ℕ) → x ≡ a → Walked s rank N X a x []
 walked-none s rank N X a x e =
@@ -200,7 +201,7 @@ walked-more {s} {rank} {N} {X} {a} {x} {y} {d} {t} {ts} st far falls ne w =
       low = (rw (st .from) (omega arith), each-map (λ r l. omega (arith, l)) ts (w .low));
       away = (rw (st .from) ne, w .away);
       once = (each-map (λ r l e. omega (arith, l, ap (λ i. rank (i .0)) e, ap (λ i. rank (i .0)) (st .from))) ts (w .low), w .once);
-      sum = ap (λ z. N *ℤ (z +ℤ lengthOf s ts)) (st .long) ∙ ring (N ∷ d ∷ lengthOf s ts ∷ []) (search quotes depth 12) (search quotes depth 12) refl ∙ ap₂ _+ℤ_ far (w .sum) ∙ ring (X y ∷ X x ∷ X a ∷ []) (search quotes depth 12) (search quotes depth 12) refl;
+      sum = ap (λ z. N *ℤ (z +ℤ distanceSum s ts)) (st .long) ∙ ring (N ∷ d ∷ distanceSum s ts ∷ []) (search quotes depth 12) (search quotes depth 12) refl ∙ ap₂ _+ℤ_ far (w .sum) ∙ ring (X y ∷ X x ∷ X a ∷ []) (search quotes depth 12) (search quotes depth 12) refl;
     }
 
 -- a first step from the root and the steps back to it are a ring, if the first step asks more than there is
@@ -213,10 +214,10 @@ ring-of {s} {rank} {N} {X} {a} {b} {h} {t} {ts} above short st w =
       above = *ℤ-lt-cancel {c = N} above (rw (*ℤ-zero N, total) short);
     }
   where
-    total : N *ℤ (distanceOf s t +ℤ lengthOf s ts) ≡ viol a b (N *ℤ h) X
+    total : N *ℤ (distanceOf s t +ℤ distanceSum s ts) ≡ viol a b (N *ℤ h) X
     total =
-        ap (λ z. N *ℤ (z +ℤ lengthOf s ts)) (st .long)
-        ∙ ring (N ∷ h ∷ lengthOf s ts ∷ []) (search quotes depth 12) (search quotes depth 12) refl
+        ap (λ z. N *ℤ (z +ℤ distanceSum s ts)) (st .long)
+        ∙ ring (N ∷ h ∷ distanceSum s ts ∷ []) (search quotes depth 12) (search quotes depth 12) refl
         ∙ ap (λ z. N *ℤ h +ℤ z) (w .sum)
         ∙ ring (N ∷ h ∷ X a ∷ X b ∷ []) (search quotes depth 12) (search quotes depth 12) refl
 

@@ -9,14 +9,14 @@ use lib.ListN.{replicate}
 use lib.IntN.{pos, natAbs}
 use Rattle.exact.specs.Round.{rounded, roundTiesToAway, withinPlaces, wholeOf}
 use Rattle.ground.specs.declared.Answer.the-variants.{Placed}
-use Rattle.ground.specs.Answers.{numberOf, placedAt, refusal}
+use Rattle.ground.specs.Answers.{numberOf, refusedPlace, refusal}
 use Rattle.text_reading.specs.declared.Reading.the-variants.{Sheet}
 use Rattle.text_listing.specs.Listing.{listedIn}
 use Rattle.text_listing.specs.Listing as writing
 use Rattle.dirmoog_c.specs.Texted.{readFirst, readSecond}
 
 -- the place of a refusal for its number: 6 at label 1
-pub place-for-number : numberOf (refusal 6 1 0) ≢ placedAt (refusal 6 1 0)
+pub place-for-number : numberOf (refusal 6 1 0) ≢ refusedPlace (refusal 6 1 0)
 place-for-number same = omega arith
 
 -- the count of gaps for that of labels: two labels and one gap

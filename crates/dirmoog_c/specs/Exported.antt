@@ -6,7 +6,7 @@ use lib.ListN.{set}
 use Rattle.ground.specs.declared.Answer.{Answer}
 use Rattle.sheet_checks.specs.Lent.{Read, Written}
 use Rattle.layout.specs.Promise.{Promise}
-use Rattle.ground.specs.Answers.{numberOf, placedAt, ringLengthOf}
+use Rattle.ground.specs.Answers.{numberOf, refusedPlace, ringLengthOf}
 
 -- two numbers told at the front of a lent list;
 -- setting an entry that the list has not leaves it as it is, so what fits is told
@@ -18,4 +18,4 @@ pub record Laid (r : Read) (w : Written) (out : List ℕ) (number : ℕ) (after 
   pub answer : Answer
   pub kept : Promise r w answer after
   pub returned : number ≡ numberOf answer
-  pub out-told : out-after ≡ told (placedAt answer) (ringLengthOf answer) out
+  pub out-told : out-after ≡ told (refusedPlace answer) (ringLengthOf answer) out

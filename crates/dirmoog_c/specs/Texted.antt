@@ -9,14 +9,14 @@ use Rattle.ground.specs.declared.Answer.the-variants.{Placed}
 use Rattle.ground.specs.Answers.{refusal}
 use Rattle.text_reading.specs.declared.Reading.{Reading}
 use Rattle.text_reading.specs.declared.Reading.the-variants as read
-use Rattle.text_reading.specs.Readings.{numberOf, placeOf, labelsOf, gapsOf}
+use Rattle.text_reading.specs.Readings.{numberOf, refusedPlace, labelsOf, gapsOf}
 use Rattle.text_reading.specs.Texts.{Lists, reading}
 use Rattle.dirmoog_c.specs.Exported.{told}
 
 -- what C is told of a reading: the counts of labels and gaps, or the place and 0
 abbrev pub readFirst : Reading → ℕ
 readFirst (read.Sheet counts) = labelsOf (read.Sheet counts)
-readFirst (read.Refused r) = placeOf (read.Refused r)
+readFirst (read.Refused r) = refusedPlace (read.Refused r)
 
 abbrev pub readSecond : Reading → ℕ
 readSecond r = gapsOf r

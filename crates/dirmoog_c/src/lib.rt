@@ -7,7 +7,7 @@ ghost use mathlib.Core.Path.{_≡_};
 ghost use lib.ListN.{set};
 ghost use Rattle.exact.specs.Round as rounding;
 ghost use Rattle.sheet_checks.specs.Lent.{roomLent, sheetLent};
-ghost use Rattle.ground.specs.Answers.{numberOf, placedAt, ringLengthOf};
+ghost use Rattle.ground.specs.Answers.{numberOf, refusedPlace, ringLengthOf};
 ghost use Rattle.dirmoog_c.specs.Exported.{Laid};
 ghost use Rattle.ground.specs.Views.{after, before};
 
@@ -25,7 +25,7 @@ fn number_of(answer: Answer) -> usize
 
 // The place of an answer.
 fn place_of(answer: Answer) -> usize
-    ensures { λ r. ⌜ r ≡ placedAt answer ⌝ }
+    ensures { λ r. ⌜ r ≡ refusedPlace answer ⌝ }
 {
     match answer {
         Answer::Placed => 0,
@@ -103,11 +103,12 @@ pub extern "C" fn dirmoog_layout(
 }
 
 // Rounds a fraction to whole units. Gives 0, or 12 for a bad fraction;
-// out is told the whole number, which is 0 for a refusal.
+// out is told the whole number, which is 0 for a refusal. No place is told: it is always 0.
 #[no_mangle]
 pub extern "C" fn dirmoog_round(num: i64, den: i64, out: &mut [i64]) -> usize
     ensures { λ r. ⌜ r ≡ rounding.numberOf (rounding.rounded num den) ⌝ }
     ensures { λ _. ⌜ after out ≡ set (before out) 0 (rounding.wholeOf (rounding.rounded num den)) ⌝ }
+    ensures { λ _. ⌜ rounding.refusedPlace (rounding.rounded num den) ≡ 0 ⌝ }
 {
     let answer = round(num, den);
     put_signed(out, 0, answer.whole());

@@ -102,7 +102,8 @@ fn listed_bytes(listed: Listed) -> usize
 }
 
 // Writes the listing of an answer to the front of text.
-// Gives 0 or the refusal's number; out is told the count of bytes, 0 where it is refused.
+// Gives 0 or the refusal's number; out is told the count of bytes, 0 where it is refused. No place is told: it is
+// always 0.
 #[no_mangle]
 pub extern "C" fn dirmoog_listing(
     number: usize,
@@ -120,6 +121,9 @@ pub extern "C" fn dirmoog_listing(
     ensures { λ _.
         ⌜ after out ≡ set (before out) 0
         (writing.bytesOf (writing.listedIn (answerOf number place) (before «place_num») (before «place_den») (before text) .answer)) ⌝ }
+    ensures { λ _.
+        ⌜ writing.refusedPlace (writing.listedIn (answerOf number place) (before «place_num») (before «place_den») (before text) .answer) ≡ 0
+        ⌝ }
 {
     let answer = answer_of(number, place);
     let listed = write_listing(answer, place_num, place_den, text);

@@ -33,9 +33,9 @@ abbrev pub numberOf : Rounded → ℕ
 numberOf (Whole z) = 0
 numberOf (Refused r) = r .number
 
-abbrev pub placeOf : Rounded → ℕ
-placeOf (Whole z) = 0
-placeOf (Refused r) = r .place
+abbrev pub refusedPlace : Rounded → ℕ
+refusedPlace (Whole z) = 0
+refusedPlace (Refused r) = r .place
 
 abbrev pub wholeOf : Rounded → ℤ
 wholeOf (Whole z) = z

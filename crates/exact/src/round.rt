@@ -5,7 +5,7 @@ use ground::limits::PLACE_DEN_MOST;
 use ground::limits::PLACE_NUM_MOST;
 ghost use mathlib.Core.Path.{_≡_};
 ghost use Rattle.exact.specs.Divide.{InRange};
-ghost use Rattle.exact.specs.Round.{roundTiesToAway, refusal12, rounded, numberOf, placeOf, wholeOf};
+ghost use Rattle.exact.specs.Round.{roundTiesToAway, refusal12, rounded, numberOf, refusedPlace, wholeOf};
 
 impl Rounded {
     // The refusal's number, or 0.
@@ -20,7 +20,7 @@ impl Rounded {
 
     // The refusal's place, or 0.
     pub fn place(self) -> usize
-        ensures { λ r. ⌜ r ≡ placeOf self ⌝ }
+        ensures { λ r. ⌜ r ≡ refusedPlace self ⌝ }
     {
         match self {
             Rounded::Whole(_) => 0,

@@ -1,5 +1,5 @@
 -- The answer of a layout call: document 01's number and values for each of its cases.
--- Every other answer has its own beside its enum, and its refused case carries the same struct.
+-- Those of Rounded, Reading, Listed and Checked stand beside their enum; their refused cases carry the same struct.
 use Prim.Native.Nat.{ℕ}
 use Rattle.ground.specs.declared.Answer.{Answer}
 use Rattle.ground.specs.declared.Answer.the-variants.{Placed, Refused}
@@ -14,9 +14,9 @@ abbrev pub numberOf : Answer → ℕ
 numberOf Placed = 0
 numberOf (Refused r) = r .number
 
-abbrev pub placedAt : Answer → ℕ
-placedAt Placed = 0
-placedAt (Refused r) = r .place
+abbrev pub refusedPlace : Answer → ℕ
+refusedPlace Placed = 0
+refusedPlace (Refused r) = r .place
 
 abbrev pub ringLengthOf : Answer → ℕ
 ringLengthOf Placed = 0

@@ -6,7 +6,7 @@ use mathlib.Core.Bool.{Bool, true, false}
 use mathlib.Core.List.{List, [], _∷_, _++_, map, List·Memᴰ, List·Memᴰ·head, List·Memᴰ·tail}
 use native.Mathlib.Omega.{arith}
 use lib.Dec.{T}
-use lib.ListN.{length, getD, length-map, List·getD-map}
+use lib.ListN.{length, getD, take, length-map, List·getD-map}
 use lib.IntN.{pos}
 use Rattle.exact.specs.Fraction.{LowestTerms, whole}
 use Rattle.exact.proofs.Divisor.{lowest-unique}
@@ -14,12 +14,13 @@ use Rattle.ground.specs.declared.Answer.{Answer}
 use Rattle.ground.specs.declared.Answer.the-variants as answer
 use Rattle.ground.specs.declared.GapNumber.{GapNumber}
 use Rattle.ground.specs.declared.Label.{Label}
-use Rattle.ground.specs.Answers.{refusal}
+use Rattle.ground.specs.Answers.{refusal, ringLengthOf}
+use Rattle.ground.specs.Entries.{Each}
 use Rattle.least_move.specs.Sheet.{Sheet, Proper, at-least, label}
 use Rattle.least_move.specs.Placement.{Feasible}
 use Rattle.least_move.specs.Multipliers.{Conditions}
 use Rattle.least_move.specs.Ring.{Ring}
-use Rattle.least_move.specs.Bench.{WrittenGap, Source, given, worked-out, Placed, Refused, Case, placed, refused, moved, bench, placement, multipliers, written, RightPlaced, RightRefused, OnlyMultipliers, _to_of_}
+use Rattle.least_move.specs.Bench.{WrittenGap, Source, given, worked-out, Placed, Refused, Case, placed, refused, moved, bench, placement, multipliers, written, RightPlaced, RightRefused, OnlyMultipliers, passes, _to_of_}
 use Rattle.least_move.specs.Bench as bench
 use Rattle.least_move.proofs.Bench.{Test, granted, _on_, each, bench-right}
 use Rattle.least_move.proofs.Places.{conditions-places}
@@ -28,7 +29,8 @@ use Rattle.sheet_checks.specs.declared.Checked.the-variants as checked
 use Rattle.sheet_checks.specs.Lent.{Written, labelCount, gapCount, atLeast, sheetOf, placeOf, multiplierOf}
 use Rattle.sheet_checks.specs.Refusals.{offenderBelow, tableOf, ragged, rows, table}
 use Rattle.sheet_checks.proofs.Passed.{passed-proper}
-use Rattle.layout.specs.Promise.{Promise, Accepted, forwards}
+use Rattle.least_move.specs.Marks.{Step, forwards}
+use Rattle.layout.specs.Promise.{Promise, Accepted, RingGiven}
 use Rattle.layout.specs.BenchCalls.{Form, as-lists, as-records, recordOf, lend, LentWith, EachCall, MultipliersSo, PlacedSo, RefusedSo, AnsweredSo}
 use Rattle.layout.proofs.Facts.{judged, placed-accepted, places-known}
 
@@ -39,17 +41,17 @@ abbrev Fits : Form → bench.Written → Type 0
 Fits f s =
     tableOf (labelCount (lend f s)) (gapCount (lend f s)) (ragged (lend f s) (length (s .carried))) false (rows (lend f s)) ≡ checked.Pass
 
-passes : Checked → Bool
-passes checked.Pass = true
-passes (checked.Refused q) = false
+is-pass : Checked → Bool
+is-pass checked.Pass = true
+is-pass (checked.Refused q) = false
 
-shows-pass : (c : Checked) → T (passes c) → c ≡ checked.Pass
-unfolding passes
+shows-pass : (c : Checked) → T (is-pass c) → c ≡ checked.Pass
+unfolding is-pass
 shows-pass checked.Pass h = refl
 shows-pass (checked.Refused q) h = absurd h
 
 abbrev fits? : (f : Form) (s : bench.Written) → Test (Fits f s)
-fits? f s = record { passes = passes _; shows = shows-pass _ }
+fits? f s = record { passes = is-pass _; shows = shows-pass _ }
 
 -- in both forms
 abbrev FitsBoth : bench.Written → Type 0
@@ -73,7 +75,7 @@ case? (refused c) = both? (c .sheet)
 case? (moved c) = granted (λ a b. (a, b)) on both? (c .before .sheet) on both? (c .after .sheet)
 
 bench-fits : (c : Case) → List·Memᴰ c bench → FitsCase c
-unfolding bench passes tableOf offenderBelow
+unfolding bench is-pass tableOf offenderBelow
 bench-fits = each case? bench .shows tt
 
 lent-passes : (f : Form) (s : bench.Written) {w : Written} → LentWith f s w → Fits f s → table (lend f s) w ≡ checked.Pass
@@ -161,21 +163,36 @@ module _ (c : Placed) (right : RightPlaced c) (fits : FitsBoth (c .sheet)) where
   placed-so : EachCall (c .sheet) (PlacedSo c)
   placed-so f w a after l promise = placed-once f w a after l promise
 
+-- the numbers of gaps passed forwards
+numbers : (es : List ℕ) → map (λ (t : Step). t .by .0) (map forwards es) ≡ es
+numbers [] = refl
+numbers (e ∷ es) = ap (λ (l : List ℕ). e ∷ l) (numbers es)
+
 module _ (c : Refused) (right : RightRefused c) (fits : FitsBoth (c .sheet)) where
+  module _ (f : Form) (a : Answer) (after w : Written) (told : a ≡ refusal 9 0 (ringLengthOf a)) (ring : RingGiven (sheetOf (lend f (c .sheet))) w after (ringLengthOf a)) where
+    -- every ring is the document's
+    known-ring : (suc (length (map forwards (ring .others))) ≡ length (c .ring)) × Each (λ e. List·Memᴰ e (passes (forwards (ring .first)) (map forwards (ring .others)))) (c .ring)
+    known-ring =
+        right .only (forwards (ring .first)) (map forwards (ring .others))
+        (subst (λ (s : Sheet). Ring s (forwards (ring .first)) (map forwards (ring .others))) (lend-same f (c .sheet)) (ring .ring))
+
+    size : ringLengthOf a ≡ length (c .ring)
+    size = ring .counted ∙ ap suc (sym (length-map (ring .others) forwards)) ∙ known-ring .0
+
+    front : map (λ (t : Step). t .by .0) (forwards (ring .first) ∷ map forwards (ring .others)) ≡ take (length (c .ring)) (after .ring)
+    front = ap (λ (l : List ℕ). ring .first ∷ l) (numbers (ring .others)) ∙ sym (ring .front) ∙ ap (λ (n : ℕ). take n (after .ring)) size
+
+    refused-once : RefusedSo c a after
+    refused-once = record {
+      answered = told ∙ ap (refusal 9 0) size ∙ ap (λ (n : ℕ). refusal n 0 (length (c .ring))) (sym (right .number));
+      ring = subst (λ (l : List ℕ). Each (λ e. List·Memᴰ e l) (c .ring)) front (known-ring .1);
+    }
+
   refused-so : EachCall (c .sheet) (RefusedSo c)
   refused-so f w a after l promise =
       judged promise (lent-passes f (c .sheet) l (fits f))
-      (λ _ accepted. absurd (right .none (placeOf after) (subst (λ (s : Sheet). Feasible s (placeOf after)) same (accepted .least .feasible))))
-      (λ told _ ring.
-      told
-      ∙ ap (refusal 9 0)
-      (ring .counted ∙ ap suc (sym (length-map (ring .others) forwards))
-      ∙ right .only (forwards (ring .first)) (map forwards (ring .others))
-      (subst (λ (s : Sheet). Ring s (forwards (ring .first)) (map forwards (ring .others))) same (ring .ring)))
-      ∙ ap (λ (n : ℕ). refusal n 0 (length (c .ring))) (sym (right .number)))
-    where
-      same : sheetOf (lend f (c .sheet)) ≡ written (c .sheet)
-      same = lend-same f (c .sheet)
+      (λ _ accepted. absurd (right .none (placeOf after) (subst (λ (s : Sheet). Feasible s (placeOf after)) (lend-same f (c .sheet)) (accepted .least .feasible))))
+      (λ told _ ring. refused-once f a after w told ring)
 
 answered-so : (c : Case) → bench.RightCase c → FitsCase c → AnsweredSo c
 answered-so (placed c) right fits = placed-so c right fits

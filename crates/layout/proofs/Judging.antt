@@ -16,7 +16,7 @@ use Rattle.algebra.proofs.Whole.{parts-le}
 use Rattle.least_move.specs.Sheet.{Proper, gapNumber, label}
 use Rattle.least_move.specs.Placement.{Placement, Feasible}
 use Rattle.least_move.specs.Multipliers.{Conditions}
-use Rattle.least_move.specs.Marks.{Step}
+use Rattle.least_move.specs.Marks.{Step, forwards}
 use Rattle.least_move.specs.Ring.{Ring, Passable}
 use Rattle.least_move.proofs.Laws.{least-of-conditions, ring-excludes}
 use Rattle.ground.specs.Entries.{nat, int, Each}
@@ -34,7 +34,7 @@ use Rattle.sheet_checks.specs.Lent.{Read, Written, sheetOf, placeOf, multiplier
 use Rattle.sheet_checks.specs.declared.Checked.the-variants as checked
 use Rattle.sheet_checks.specs.Refusals.{outside, unequal, rows, table}
 use Rattle.layout.specs.Answered.{answerOf}
-use Rattle.layout.specs.Promise.{Promise, ByTable, Judged, Accepted, RingGiven, forwards}
+use Rattle.layout.specs.Promise.{Promise, ByTable, Judged, Accepted, RingGiven}
 use Rattle.ground.specs.Answers.{refusal}
 use Rattle.sheet_checks.proofs.Passed.{Passed, table-passed, or-clear, same-of-not, ends-in, passed-proper}
 use Rattle.sheet_checks.proofs.Told.{table-ringless}

@@ -26,7 +26,8 @@ use Rattle.sheet_checks.specs.declared.Checked.the-variants.{Pass}
 use Rattle.sheet_checks.specs.Lent.{Read, Written, labelCount, gapCount, recordAt, sheetOf, placeOf}
 use Rattle.sheet_checks.specs.Refusals.{table}
 use Rattle.sheet_checks.proofs.Passed.{passed-proper}
-use Rattle.layout.specs.Promise.{Promise, Accepted, byteAt, forwards}
+use Rattle.least_move.specs.Marks.{forwards}
+use Rattle.layout.specs.Promise.{Promise, Accepted, byteAt}
 use Rattle.layout.proofs.Facts.{placed-accepted, placed-exactly}
 
 -- a byte that is at most 1 and no mark is 0

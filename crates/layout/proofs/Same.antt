@@ -18,7 +18,8 @@ use Rattle.sheet_checks.specs.declared.Checked.the-variants as checked
 use Rattle.sheet_checks.specs.Lent.{Read, Written, LentGaps, countOf, recordAt, atLeast, sheetOf, placeOf, multiplierOf}
 use Rattle.sheet_checks.specs.Refusals.{inTurn, offenderBelow, offender, sizeTests, tableOf, unequal, outside, roomOf, uneven, short, offPlate, badWeight, stranger, badGap, rows, table}
 use Rattle.sheet_checks.proofs.Passed.{offender-same, passed-proper}
-use Rattle.layout.specs.Promise.{Promise, ByTable, Judged, Accepted, RingGiven, forwards}
+use Rattle.least_move.specs.Marks.{forwards}
+use Rattle.layout.specs.Promise.{Promise, ByTable, Judged, Accepted, RingGiven}
 use Rattle.ground.specs.Entries.{Filled}
 use Rattle.ground.specs.Limits.{distanceMost}
 
@@ -39,7 +40,7 @@ module _ {s s′ : Sheet} (agree : Agree s s′) (proper′ : Proper s′) (w af
         mult-nums = subst (λ n. Filled n (w .mult-num) (after .mult-num)) (agree .gaps) (ok .mult-nums);
         mult-dens = subst (λ n. Filled n (w .mult-den) (after .mult-den)) (agree .gaps) (ok .mult-dens);
         ring = ok .ring;
-        carried = ok .carried;
+        carried = subst (λ n. Filled n (w .carried) (after .carried)) (agree .gaps) (ok .carried);
         least = least-of-conditions s′ (placeOf after) (multiplierOf after) proper′ conditions;
         conditions = conditions;
         marks = marks-agree agree (λ e h. refl) (ok .marks);

@@ -128,7 +128,7 @@ module _ (f : Form) (part : Part) where
 
   -- one that tells a made-up ring length: P7 needs two gaps
   pub makes-up-ring : (w : Written) → LentWith f (P7 .sheet) w → ringLengthOf (part (lend f (P7 .sheet)) w .0) ≢ 2 → ¬ (Keeps f part)
-  makes-up-ring w l made-up keeps = made-up (ap ringLengthOf (P7-rings f w _ _ l (kept f part keeps (P7 .sheet) w)))
+  makes-up-ring w l made-up keeps = made-up (ap ringLengthOf (P7-rings f w _ _ l (kept f part keeps (P7 .sheet) w) .answered))
 
   -- "Trusting the carried mark in P5: it gives 45 and 55"
   pub trusts-the-mark : (w : Written) → LentWith f (P5 .sheet) w → placeOf (part (lend f (P5 .sheet)) w .1) (label 0) ≡ record { num = pos 45; den = pos 1 } → ¬ (Keeps f part)

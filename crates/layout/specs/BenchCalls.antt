@@ -3,14 +3,15 @@
 use Prim.Native.Nat.{_<_}
 use mathlib.Core.Path.{_≡_}
 use mathlib.Core.Bool.{false}
-use mathlib.Core.List.{List, map}
-use lib.ListN.{length}
+use mathlib.Core.List.{List, map, List·Memᴰ}
+use lib.ListN.{length, take}
 use Rattle.ground.specs.declared.Answer.{Answer}
 use Rattle.ground.specs.declared.Answer.the-variants as answer
 use Rattle.ground.specs.declared.GapNumber.{GapNumber}
 use Rattle.ground.specs.declared.GapRecord.{GapRecord}
 use Rattle.ground.specs.declared.Label.{Label}
 use Rattle.ground.specs.Answers.{refusal}
+use Rattle.ground.specs.Entries.{Each}
 use Rattle.least_move.specs.Bench.{WrittenGap, Source, given, worked-out, Placed, Refused, Case, placed, refused, moved, placement, multipliers}
 use Rattle.least_move.specs.Bench as bench
 use Rattle.sheet_checks.specs.Lent.{LentGaps, lists, records, Read, Written, labelCount, gapCount, placeOf, multiplierOf}
@@ -55,10 +56,12 @@ pub record PlacedSo (c : Placed) (a : Answer) (after : Written) : Type 0 where
   pub places : (i : Label) → i .0 < length (c .sheet .wants) → placeOf after i ≡ placement c i
   pub multipliers-so : MultipliersSo c (c .source) after
 
--- refused with this number, place 0 and a ring of this length
-abbrev pub RefusedSo : Refused → Answer → Written → Type 0
-RefusedSo c a after = a ≡ refusal (c .number) 0 (length (c .ring))
+-- refused with this number, place 0 and a ring of these gaps, in whichever order it begins
+pub record RefusedSo (c : Refused) (a : Answer) (after : Written) : Type 0 where
+  pub answered : a ≡ refusal (c .number) 0 (length (c .ring))
+  pub ring : Each (λ e. List·Memᴰ e (take (length (c .ring)) (after .ring))) (c .ring)
 
+-- the cases as calls; the moved pair says no more than its two sheets
 abbrev pub AnsweredSo : Case → Type 0
 AnsweredSo (placed c) = EachCall (c .sheet) (PlacedSo c)
 AnsweredSo (refused c) = EachCall (c .sheet) (RefusedSo c)

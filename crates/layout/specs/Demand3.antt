@@ -1,5 +1,6 @@
 -- Demand 3, the largest-move law (document 01, "What a station lends"), of two layout calls.
--- Each is lent its gaps as three lists or as records: "the pair may be one of each".
+-- Each is lent its gaps as three lists or as records: "the pair may be one of each", or two of one form.
+-- It holds of any two calls that keep their promises (`demand-3` in proofs/Demand3).
 use Prim.Native.Nat.{ℕ, _<_}
 use mathlib.Core.Path.{_≡_}
 use mathlib.Core.Logic.{_↔_}

@@ -3,7 +3,7 @@
 use Prim.Native.Nat.{ℕ, suc, _*_, _≤_, _<_}
 use mathlib.Core.Path.{_≡_}
 use mathlib.Core.Logic.{_⊎_}
-use mathlib.Core.Bool.{Bool, false}
+use mathlib.Core.Bool.{Bool}
 use mathlib.Core.List.{List, [], _∷_, map}
 use lib.Dec.{eqb}
 use lib.ListN.{length, getD, take}
@@ -14,15 +14,15 @@ use Rattle.ground.specs.declared.Answer.{Answer}
 use Rattle.ground.specs.declared.Answer.the-variants.{Placed}
 use Rattle.ground.specs.declared.Label.{Label}
 use Rattle.ground.specs.declared.GapNumber.{GapNumber}
-use Rattle.least_move.specs.Sheet.{Sheet, gapNumber}
+use Rattle.least_move.specs.Sheet.{Sheet}
 use Rattle.least_move.specs.Placement.{Placement, Feasible, LeastMove}
 use Rattle.least_move.specs.Multipliers.{Conditions}
-use Rattle.least_move.specs.Marks.{Marks, Step}
+use Rattle.least_move.specs.Marks.{Marks, forwards}
 use Rattle.least_move.specs.Ring.{Ring}
 use Rattle.sheet_checks.specs.declared.Checked.{Checked}
 use Rattle.sheet_checks.specs.declared.Checked.the-variants as checked
 use Rattle.sheet_checks.specs.Lent.{Read, Written, sheetOf, placeOf, multiplierOf}
-use Rattle.sheet_checks.specs.Refusals.{refusedNumber, refusedPlace, table}
+use Rattle.sheet_checks.specs.Refusals.{numberOf, refusedPlace, table}
 use Rattle.ground.specs.Entries.{Filled}
 use Rattle.ground.specs.Answers.{ringLengthOf, refusal}
 
@@ -41,7 +41,7 @@ pub record Accepted (s : Sheet) (w after : Written) : Type 0 where
   pub mult-nums : Filled (s .gaps) (w .mult-num) (after .mult-num)
   pub mult-dens : Filled (s .gaps) (w .mult-den) (after .mult-den)
   pub ring : after .ring ≡ w .ring
-  pub carried : length (after .carried) ≡ length (w .carried)
+  pub carried : Filled (s .gaps) (w .carried) (after .carried)
   pub least : LeastMove s (placeOf after)
   pub conditions : Conditions s (placeOf after) (multiplierOf after)
   pub marks : Marks s (placeOf after) (multiplierOf after) (markOf after)
@@ -52,12 +52,8 @@ pub record Accepted (s : Sheet) (w after : Written) : Type 0 where
   pub den-most : (i : Label) → i .0 < s .labels → natAbs (placeOf after i .den) ≤ placeDenMost
   pub near : (i : Label) → i .0 < s .labels → natAbs (placeOf after i .num) ≤ placeMost * natAbs (placeOf after i .den)
 
--- a gap number as a step that is passed forwards, as every gap of document 01 is
-abbrev pub forwards : ℕ → Step
-forwards e = record { by = gapNumber e; backwards = false }
-
 -- "9 fills the front of the ring buffer with gap numbers such that .. The rest of it stays";
--- everything else stays too
+-- everything else stays too. Every gap of document 01 asks for at least its distance, and so is passed forwards.
 pub record RingGiven (s : Sheet) (w after : Written) (size : ℕ) : Type 0 where
   pub first : ℕ
   pub others : List ℕ
@@ -76,7 +72,7 @@ Judged s w a after =
 -- what the table refuses has the check's number and place, and no ring: "A refused call writes nothing"
 abbrev pub ByTable : Checked → Sheet → Written → Answer → Written → Type 0
 ByTable (checked.Refused q) s w a after =
-    (a ≡ refusal (refusedNumber (checked.Refused q)) (refusedPlace (checked.Refused q)) 0) × (after ≡ w)
+    (a ≡ refusal (numberOf (checked.Refused q)) (refusedPlace (checked.Refused q)) 0) × (after ≡ w)
 ByTable checked.Pass s w a after = Judged s w a after
 
 -- the whole promise of a layout call

@@ -4,9 +4,10 @@ use Prim.Native.Nat.{ℕ, zero, suc, _%_, _∣_, _<_}
 use mathlib.Core.Path.{_≡_, refl, sym, _∙_, ap, subst, subst⁻¹}
 use mathlib.Core.Logic.{_≢_, _⊎_, inl, inr, ⊎-elim}
 use mathlib.Core.Bool.{Bool, true, false, cond, not, _&&_, _||_}
-use mathlib.Core.List.{List, [], _∷_, map, List·Memᴰ, List·Memᴰ·not-nil, List·Memᴰ·cases-cons}
+use mathlib.Core.List.{List, [], _∷_, map, List·Memᴰ, List·Memᴰ·head, List·Memᴰ·tail, List·Memᴰ·not-nil, List·Memᴰ·cases-cons}
 use native.Mathlib.Omega.{arith}
 use native.Mathlib.Nat.{mod-eq-zero-of-dvd, le-of-dvd}
+use borrow.Author.Tests.{eqb-true, eq-eqb}
 use lib.Dec.{T, T-not, eqb, ltb, eqb→eq, eqb-refl, ltb→lt}
 use lib.ListN.{length}
 use lib.IntN.{ℤ, pos, natAbs}
@@ -22,9 +23,9 @@ use Rattle.ground.specs.declared.GapNumber.{GapNumber}
 use Rattle.least_move.specs.Sheet.{Sheet, Gap, Kind, at-least, exactly, ignored, Proper, label, gapNumber}
 use Rattle.least_move.specs.Placement.{Placement, Asks, Feasible, Tight, reach}
 use Rattle.least_move.specs.Multipliers.{Multipliers, Lawful, Conditions}
-use Rattle.least_move.specs.Marks.{Step, start, finish, Leads}
+use Rattle.least_move.specs.Marks.{Step, forwards, start, finish, Leads}
 use Rattle.least_move.specs.Ring.{Ring, Passable, OnceLeft}
-use Rattle.least_move.specs.Bench.{WrittenGap, Source, given, worked-out, Placed, Refused, Moved, Case, placed, refused, moved, bench, gapOf, written, sheetOf, placement, multipliers, forwards, RingOf, OnlyMultipliers, RightPlaced, RightRefused, RightMoved, RightCase}
+use Rattle.least_move.specs.Bench.{WrittenGap, Written, Source, given, worked-out, Placed, Refused, Moved, Case, placed, refused, moved, bench, gapOf, written, sheetOf, placement, multipliers, passes, RingOf, OnlyMultipliers, RightPlaced, RightRefused, RightMoved, RightCase}
 use Rattle.least_move.proofs.Laws.{least-of-conditions, ring-excludes}
 use Rattle.least_move.proofs.Decided.{Alone, Decided, decided-same}
 use Rattle.ground.specs.Entries.{Each}
@@ -64,11 +65,6 @@ a or b =
       passes = a .passes || b .passes;
       shows = λ h. ⊎-elim (λ x. inl (a .shows x)) (λ x. inr (b .shows x)) (one-passes (a .passes) (b .passes) h);
     }
-
--- either of two tests of one statement
-infixr 35 _orelse_
-abbrev _orelse_ : {P : Type 0} → Test P → Test P → Test P
-a orelse b = granted (λ h. ⊎-elim (λ x. x) (λ x. x) h) on (a or b)
 
 -- the second where the first is not so, and the second where the first is so
 abbrev unless : {P Q : Type 0} → Test P → Test Q → Test (¬ P → Q)
@@ -227,9 +223,9 @@ alone? s p e i =
 abbrev decided? : (s : Sheet) (p : Placement) (e : ℕ) → Test (Decided s p e)
 decided? s p e = loose? s p e or (equal-label _ _ or (alone? s p e _ or alone? s p e _))
 
--- every ring of a sheet has so many gaps
-abbrev RingsOf : Sheet → ℕ → Type 0
-RingsOf s n = (first : Step) (others : List Step) → Ring s first others → suc (length others) ≡ n
+-- every ring of a sheet passes as many gaps as the list has, and all of the list
+abbrev RingsOf : Sheet → List ℕ → Type 0
+RingsOf s l = (first : Step) (others : List Step) → Ring s first others → (suc (length others) ≡ length l) × Each (λ e. List·Memᴰ e (passes first others)) l
 
 -- a step of a ring starts at a label of the sheet
 start-in : (s : Sheet) → Proper s → (t : Step) → t .by .0 < s .gaps → start s t .0 < s .labels
@@ -242,45 +238,93 @@ start-in s proper t h = go (t .backwards)
 apart-starts : {a b : Label} → a ≢ b → a .0 ≢ b .0
 apart-starts n e = n (ap label e)
 
--- one label: a second gap would start where the first did
-one-label : (s : Sheet) → Proper s → s .labels ≡ 1 → RingsOf s 1
-one-label s proper one first [] r = refl
-one-label s proper one first (t ∷ others) r =
+-- steps that pass one gap forwards start at one label
+same-start : (s : Sheet) (t u : Step) → t .backwards ≡ false → u .backwards ≡ false → t .by .0 ≡ u .by .0 → start s t ≡ start s u
+same-start s t u a b same =
+    ap (λ (d : Bool). cond d (s .gap (t .by) .right) (s .gap (t .by) .left)) a
+    ∙ ap (λ (e : ℕ). s .gap (gapNumber e) .left) same
+    ∙ sym (ap (λ (d : Bool). cond d (s .gap (u .by) .right) (s .gap (u .by) .left)) b)
+
+-- all gaps ask for at least their distance, so each is passed forwards
+abbrev Plain : Sheet → Type 0
+Plain s = (e : GapNumber) → s .gap e .kind ≡ at-least
+
+forwards-so : (s : Sheet) → Plain s → (t : Step) → Passable (s .gap (t .by) .kind) (t .backwards) → t .backwards ≡ false
+forwards-so s plain t h = subst (λ (k : Kind). Passable k (t .backwards)) (plain (t .by)) h
+
+-- one label and one gap: a second would start where the first did
+one-gap : (s : Sheet) → Proper s → s .labels ≡ 1 → s .gaps ≡ 1 → RingsOf s (0 ∷ [])
+one-gap s proper one gap first [] r =
+    let at : first .by .0 ≡ 0 = omega (arith, r .passable .0 .0) in
+    (refl, (List·Memᴰ·head (sym at), tt))
+one-gap s proper one gap first (t ∷ others) r =
     absurd (omega (arith, start-in s proper first (r .passable .0 .0), start-in s proper t (r .passable .1 .0 .0), apart-starts (r .once .0 .0)))
 
--- two labels and no self gap: one gap does not close, and a third would start where one did
-two-labels : (s : Sheet) → Proper s → s .labels ≡ 2 → ((e : GapNumber) → e .0 < s .gaps → s .gap e .left ≢ s .gap e .right) → RingsOf s 2
-two-labels s proper two no-self first [] r = absurd (go (first .backwards) (r .closed))
-  where
-    g : Gap
-    g = s .gap (first .by)
+-- two labels and two gaps, neither of a label to itself: one alone does not close, a third would start where one did,
+-- and the same gap twice would start twice from one label
+module _ (s : Sheet) (proper : Proper s) (plain : Plain s) (two : s .labels ≡ 2) (gaps-two : s .gaps ≡ 2)
+    (no-self : (e : GapNumber) → e .0 < s .gaps → s .gap e .left ≢ s .gap e .right) where
+  not-alone : (first : Step) → Ring s first [] → ⊥
+  not-alone first r = go (first .backwards) (r .closed)
+    where
+      g : Gap
+      g = s .gap (first .by)
 
-    go : (b : Bool) → cond b (g .left) (g .right) ≡ cond b (g .right) (g .left) → ⊥
-    go true e = no-self (first .by) (r .passable .0 .0) e
-    go false e = no-self (first .by) (r .passable .0 .0) (sym e)
-two-labels s proper two no-self first (t ∷ []) r = refl
-two-labels s proper two no-self first (t ∷ u ∷ others) r =
-    absurd
-    (omega (
-      arith,
-      start-in s proper first (r .passable .0 .0),
-      start-in s proper t (r .passable .1 .0 .0),
-      start-in s proper u (r .passable .1 .1 .0 .0),
-      apart-starts (r .once .0 .0),
-      apart-starts (r .once .0 .1 .0),
-      apart-starts (r .once .1 .0 .0),
-    ))
+      go : (b : Bool) → cond b (g .left) (g .right) ≡ cond b (g .right) (g .left) → ⊥
+      go true e = no-self (first .by) (r .passable .0 .0) e
+      go false e = no-self (first .by) (r .passable .0 .0) (sym e)
 
-abbrev rings? : (s : Sheet) (n : ℕ) → Test (Proper s → RingsOf s n)
-rings? s n =
-    (granted (λ (one : s .labels ≡ 1) (same : 1 ≡ n) proper first others r. one-label s proper one first others r ∙ same)
+  both : (first t : Step) → Ring s first (t ∷ []) → (e : ℕ) → e < 2 → List·Memᴰ e (passes first (t ∷ []))
+  both first t r e h =
+      ⊎-elim (λ q. List·Memᴰ·head q) (λ q. List·Memᴰ·tail (List·Memᴰ·head q)) (one-of (eqb e (first .by .0)) refl)
+    where
+      differ : first .by .0 ≢ t .by .0
+      differ same =
+          r .once .0 .0 (sym (same-start s first t (forwards-so s plain first (r .passable .0 .1)) (forwards-so s plain t (r .passable .1 .0 .1)) same))
+
+      one-of : (b : Bool) → eqb e (first .by .0) ≡ b → (e ≡ first .by .0) ⊎ (e ≡ t .by .0)
+      one-of true q = inl (eqb-true e (first .by .0) q)
+      one-of false q =
+          let other : e ≢ first .by .0 = λ same. no-true (sym q ∙ eq-eqb e (first .by .0) same) in
+          inr (omega (arith, differ, other, r .passable .0 .0, r .passable .1 .0 .0))
+        where
+          no-true : false ≡ true → ⊥
+          no-true z = let n : _≡_ {A = ℕ} 0 1 = cc in omega arith
+
+  two-gaps : RingsOf s (0 ∷ 1 ∷ [])
+  two-gaps first [] r = absurd (not-alone first r)
+  two-gaps first (t ∷ []) r = (refl, (both first t r 0 (omega arith), (both first t r 1 (omega arith), tt)))
+  two-gaps first (t ∷ u ∷ others) r =
+      absurd
+      (omega (
+        arith,
+        start-in s proper first (r .passable .0 .0),
+        start-in s proper t (r .passable .1 .0 .0),
+        start-in s proper u (r .passable .1 .1 .0 .0),
+        apart-starts (r .once .0 .0),
+        apart-starts (r .once .0 .1 .0),
+        apart-starts (r .once .1 .0 .0),
+      ))
+
+-- a ring that has the one gap, or both gaps, of a sheet
+abbrev rings? : (w : Written) (l : List ℕ) → Test (Proper (written w) → RingsOf (written w) l)
+rings? w [] = denied
+rings? w (a ∷ []) =
+    granted (λ (one : written w .labels ≡ 1) (gap : written w .gaps ≡ 1) (first : 0 ≡ a) proper.
+    subst (λ (e : ℕ). RingsOf (written w) (e ∷ [])) first (one-gap (written w) proper one gap))
     on equal _ _
-    on equal _ _)
-    orelse
-    (granted (λ (two : s .labels ≡ 2) (same : 2 ≡ n) no-self proper first others r. two-labels s proper two no-self first others r ∙ same)
     on equal _ _
     on equal _ _
-    on gaps (λ e. unequal-label _ _))
+rings? w (a ∷ b ∷ []) =
+    granted (λ (labels-two : written w .labels ≡ 2) (gaps-two : written w .gaps ≡ 2) (first : 0 ≡ a) (second : 1 ≡ b) no-self proper.
+    subst (λ (e : ℕ). RingsOf (written w) (e ∷ b ∷ [])) first
+    (subst (λ (e : ℕ). RingsOf (written w) (0 ∷ e ∷ [])) second (two-gaps (written w) proper (λ e. refl) labels-two gaps-two no-self)))
+    on equal _ _
+    on equal _ _
+    on equal _ _
+    on equal _ _
+    on gaps (λ e. unequal-label _ _)
+rings? w (a ∷ b ∷ c ∷ l) = denied
 
 -- ---- of the cases
 
@@ -342,7 +386,7 @@ refused? c =
     on equal _ _
     on equal _ _
     on ring-of? (written (c .sheet)) (c .ring)
-    on rings? (written (c .sheet)) (length (c .ring))
+    on rings? (c .sheet) (c .ring)
 
 abbrev moved? : (c : Moved) → Test (RightMoved c)
 moved? c =

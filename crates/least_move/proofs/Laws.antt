@@ -19,7 +19,7 @@ use Rattle.least_move.specs.Sheet.{Sheet, Kind, at-least, exactly, ignor
 use Rattle.least_move.specs.Placement.{Placement, Feasible, LeastMove, cost}
 use Rattle.least_move.specs.Multipliers.{Multipliers, Conditions}
 use Rattle.least_move.specs.Marks.{Step, start, finish, Leads}
-use Rattle.least_move.specs.Ring.{Passable, distanceOf, lengthOf, Ring}
+use Rattle.least_move.specs.Ring.{Passable, distanceOf, distanceSum, Ring}
 use Rattle.least_move.specs.Moved.{SameButWants, Within}
 use Rattle.least_move.proofs.Scaled.{Meets-at, cost-least, cost-unique, moved-bound, moved-down, moved-squares}
 use Rattle.least_move.proofs.Bridge.{weights, wants, Conditions-at, Meets-all, Places-at, Multipliers-at, cost-scale, cost-fraction, feasible-at, conditions-at, proper-same, same-at}
@@ -103,10 +103,10 @@ one-more N d r x y z h k =
     le-goal ρ (search quotes depth 12) (search quotes depth 12)
     (omega (arith, le-given ρ (search quotes depth 12) (search quotes depth 12) h, le-given ρ (search quotes depth 12) (search quotes depth 12) k))
 
-walk : (s : Sheet) (N : ℤ) (X : ℕ → ℤ) → Meets-all s N X → (a : Label) (ts : List Step) (b : Label) → Leads s a ts b → Each (λ t. (t .by .0 < s .gaps) × Passable (s .gap (t .by) .kind) (t .backwards)) ts → (N *ℤ lengthOf s ts) ≤ℤ (X (b .0) -ℤ X (a .0))
+walk : (s : Sheet) (N : ℤ) (X : ℕ → ℤ) → Meets-all s N X → (a : Label) (ts : List Step) (b : Label) → Leads s a ts b → Each (λ t. (t .by .0 < s .gaps) × Passable (s .gap (t .by) .kind) (t .backwards)) ts → (N *ℤ distanceSum s ts) ≤ℤ (X (b .0) -ℤ X (a .0))
 walk s N X met a [] b l p = no-way N (ap (λ i. X (i .0)) l)
 walk s N X met a (t ∷ ts) b l p =
-    one-more N (distanceOf s t) (lengthOf s ts) (X (a .0)) (X (finish s t .0)) (X (b .0))
+    one-more N (distanceOf s t) (distanceSum s ts) (X (a .0)) (X (finish s t .0)) (X (b .0))
     (subst (λ (i : Label). (N *ℤ distanceOf s t) ≤ℤ (X (finish s t .0) -ℤ X (i .0))) (l .0)
     (pass N (s .gap (t .by) .distance) X (s .gap (t .by) .left) (s .gap (t .by) .right) (s .gap (t .by) .kind) (t .backwards) (p .0 .1) (met (t .by .0) (p .0 .0))))
     (walk s N X met (finish s t) ts b (l .1) (p .1))
@@ -118,7 +118,7 @@ closed-way N d x h k l = not-le-of-lt (*ℤ-above h k) (le-trans l (le-of-eq (ri
 pub ring-excludes : (s : Sheet) → Proper s → (first : Step) (rest : List Step) → Ring s first rest → (p : Placement) → ¬ (Feasible s p)
 ring-excludes s proper first rest r p f =
     let c : CommonScale (s .labels) (λ i. p (label i)) = common (s .labels) (λ i. p (label i)) (λ i h. f .fractions (label i) h) in
-    closed-way (c .N) (lengthOf s (first ∷ rest)) (c .at (start s first .0)) (c .above) (r .above)
+    closed-way (c .N) (distanceSum s (first ∷ rest)) (c .at (start s first .0)) (c .above) (r .above)
     (walk s (c .N) (c .at) (feasible-at s proper (c .above) p f (c .scaled)) (start s first) (first ∷ rest) (start s first) (refl, r .closed) (r .passable))
 
 -- ---- moved wants

@@ -8,7 +8,8 @@ use Rattle.exact.specs.Total.{total}
 use Rattle.least_move.specs.Sheet.{label, gapNumber}
 use Rattle.least_move.specs.Multipliers.{Conditions}
 use Rattle.least_move.specs.Ring.{Ring}
-use Rattle.least_move.specs.Bench.{Placed, sheet, worked-out, minus, _over_, _to_of_, sheetOf, written, placement, multipliers, forwards}
+use Rattle.least_move.specs.Bench.{Placed, sheet, worked-out, minus, _over_, _to_of_, sheetOf, written, placement, multipliers}
+use Rattle.least_move.specs.Marks.{forwards}
 
 -- P1 with other places and another multiplier: wants 0, 0, weights 1, gap 0 to 1 of 10
 abbrev first : List Fraction → Fraction → Placed

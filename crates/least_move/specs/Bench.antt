@@ -2,7 +2,7 @@
 -- and what it is for a case to be right.
 use Prim.Native.Nat.{ℕ, suc, _<_}
 use mathlib.Core.Path.{_≡_}
-use mathlib.Core.Bool.{false, cond}
+use mathlib.Core.Bool.{cond}
 use mathlib.Core.List.{List, [], _∷_, _++_, map, List·Memᴰ}
 use lib.ListN.{length, getD, replicate}
 use lib.Dec.{eqb}
@@ -11,10 +11,11 @@ use Rattle.exact.specs.declared.Fraction.{Fraction}
 use Rattle.exact.specs.Fraction.{_≃_, _⊖_, whole, LowestTerms}
 use Rattle.ground.specs.declared.Label.{Label}
 use Rattle.ground.specs.declared.GapNumber.{GapNumber}
-use Rattle.least_move.specs.Sheet.{Sheet, Gap, at-least, label, gapNumber}
+use Rattle.ground.specs.Entries.{Each}
+use Rattle.least_move.specs.Sheet.{Sheet, Gap, at-least, label}
 use Rattle.least_move.specs.Placement.{Placement, Feasible, LeastMove}
 use Rattle.least_move.specs.Multipliers.{Multipliers, Conditions}
-use Rattle.least_move.specs.Marks.{Step}
+use Rattle.least_move.specs.Marks.{Step, forwards}
 use Rattle.least_move.specs.Ring.{Ring}
 
 -- ---- the data, as the document writes it
@@ -74,7 +75,7 @@ pub data Case : Type 0 where
 
 -- ---- the list
 
--- a sheet laid out from a carried record of zeros
+-- a sheet laid out from a carried record of zeros: the document gives none but with P5
 abbrev pub sheet : List ℤ → List ℤ → List WrittenGap → Written
 sheet wants weights gaps =
     record { wants = wants; weights = weights; gaps = gaps; carried = replicate (length gaps) 0 }
@@ -243,8 +244,8 @@ OnlyMultipliers c given =
     (e : GapNumber) → e .0 < length (c .sheet .gaps) → m e ≃ multipliers c e
 OnlyMultipliers c worked-out = Unit {0}
 
--- one place per label and one multiplier per gap, which meet the conditions;
--- the placement is the least move, and each fraction is in lowest terms
+-- one weight and one place per label, one multiplier and one carried byte per gap; places and multipliers meet the
+-- conditions, the placement is the least move, each fraction is in lowest terms, and given multipliers are the only ones
 pub record RightPlaced (c : Placed) : Type 0 where
   pub weighted : Weighted (c .sheet)
   pub carrying : Carrying (c .sheet)
@@ -256,14 +257,15 @@ pub record RightPlaced (c : Placed) : Type 0 where
   pub only : OnlyMultipliers c (c .source)
 
 -- the gaps, each passed from left to right, are a ring
-abbrev pub forwards : ℕ → Step
-forwards e = record { by = gapNumber e; backwards = false }
-
 abbrev pub RingOf : Sheet → List ℕ → Type 0
 RingOf s [] = ⊥
 RingOf s (e ∷ es) = Ring s (forwards e) (map forwards es)
 
--- 9 is "no placement meets all gaps", and the ring shows it; every ring of the sheet has as many gaps
+-- the gaps that a ring passes
+abbrev pub passes : Step → List Step → List ℕ
+passes first others = map (λ t. t .by .0) (first ∷ others)
+
+-- 9 is "no placement meets all gaps", and the ring shows it; every ring of the sheet has as many gaps, and these
 pub record RightRefused (c : Refused) : Type 0 where
   pub weighted : Weighted (c .sheet)
   pub carrying : Carrying (c .sheet)
@@ -271,7 +273,7 @@ pub record RightRefused (c : Refused) : Type 0 where
   pub ring : RingOf (written (c .sheet)) (c .ring)
   pub none : (p : Placement) → ¬ (Feasible (written (c .sheet)) p)
   pub only : (first : Step) (others : List Step) → Ring (written (c .sheet)) first others →
-      suc (length others) ≡ length (c .ring)
+      (suc (length others) ≡ length (c .ring)) × Each (λ e. List·Memᴰ e (passes first others)) (c .ring)
 
 -- two sheets with the same weights and gaps: the want of the one label is moved so far and no other is,
 -- and every place is moved so far

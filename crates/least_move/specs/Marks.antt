@@ -1,5 +1,5 @@
 -- Marks (document 01, "What a station lends"): which gaps hold the labels together.
-use Prim.Native.Nat.{_<_}
+use Prim.Native.Nat.{ℕ, _<_}
 use mathlib.Core.Path.{_≡_}
 use mathlib.Core.Logic.{_≢_}
 use mathlib.Core.Bool.{Bool, true, false, cond}
@@ -8,7 +8,7 @@ use lib.IntN.{pos}
 use Rattle.exact.specs.Fraction.{_≃_, whole}
 use Rattle.ground.specs.declared.Label.{Label}
 use Rattle.ground.specs.declared.GapNumber.{GapNumber}
-use Rattle.least_move.specs.Sheet.{Sheet}
+use Rattle.least_move.specs.Sheet.{Sheet, gapNumber}
 use Rattle.least_move.specs.Placement.{Placement, Tight}
 use Rattle.least_move.specs.Multipliers.{Multipliers}
 use Rattle.ground.specs.Entries.{Each}
@@ -17,6 +17,10 @@ use Rattle.ground.specs.Entries.{Each}
 pub record Step : Type 0 where
   pub by : GapNumber
   pub backwards : Bool
+
+-- a gap of this number, passed forwards
+abbrev pub forwards : ℕ → Step
+forwards e = record { by = gapNumber e; backwards = false }
 
 -- the label that a step starts from, and the one that it comes to
 abbrev pub start : Sheet → Step → Label

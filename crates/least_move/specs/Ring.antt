@@ -21,9 +21,9 @@ abbrev pub distanceOf : Sheet → Step → ℤ
 distanceOf s t = cond (t .backwards) (negℤ (s .gap (t .by) .distance)) (s .gap (t .by) .distance)
 
 -- "the distances sum"
-abbrev pub lengthOf : Sheet → List Step → ℤ
-lengthOf s [] = pos 0
-lengthOf s (t ∷ ts) = distanceOf s t +ℤ lengthOf s ts
+abbrev pub distanceSum : Sheet → List Step → ℤ
+distanceSum s [] = pos 0
+distanceSum s (t ∷ ts) = distanceOf s t +ℤ distanceSum s ts
 
 -- "no label is a left label twice", of the ends as walked
 abbrev pub OnceLeft : Sheet → List Step → Type 0
@@ -36,4 +36,4 @@ pub record Ring (s : Sheet) (first : Step) (rest : List Step) : Type 0 where
   pub closed : Leads s (finish s first) rest (start s first)
   pub passable : Each (λ t. (t .by .0 < s .gaps) × Passable (s .gap (t .by) .kind) (t .backwards)) (first ∷ rest)
   pub once : OnceLeft s (first ∷ rest)
-  pub above : pos 0 <ℤ lengthOf s (first ∷ rest)
+  pub above : pos 0 <ℤ distanceSum s (first ∷ rest)

@@ -146,7 +146,7 @@ unfoldable pub fact : ℕ → ℕ
 fact zero = 1
 fact (suc n) = suc n * fact n
 
--- divided by every weight that a block can have
+-- divisible by every weight that a block can have
 unfoldable pub K : ℕ
 K = fact blockWeightMost
 

@@ -19,8 +19,8 @@ use Rattle.sheet_checks.specs.declared.Checked.{Checked}
 use Rattle.sheet_checks.specs.declared.Checked.the-variants.{Pass, Refused}
 use Rattle.sheet_checks.specs.declared.check.Room.{Room}
 use Rattle.sheet_checks.specs.Lent.{Read, lists}
-use Rattle.sheet_checks.specs.Refusals.{Row, firstOf, inTurn, refuse, offenderBelow, offender, sizeTests, tableOf, outside, unequal, short, badWeight, badGap, rows, tableFor}
-use Rattle.sheet_checks.specs.Checks.{rangeRow, strangerRow, raggedSizes, Even, contentsOf}
+use Rattle.sheet_checks.specs.Refusals.{Row, firstOf, inTurn, refuse, offenderBelow, offender, sizeTests, tableOf, outside, unequal, raggedSizes, unevenSizes, short, badWeight, badGap, rows, tableFor}
+use Rattle.sheet_checks.specs.Checks.{listInRange, listsOfLabels, Even, contentsOf}
 use Rattle.sheet_checks.proofs.Passed.{or-clear, same-of-not, test-pass, turn-pass}
 use Rattle.ground.specs.Limits.{distanceMost, weightLeast, weightMost}
 
@@ -81,24 +81,24 @@ Inside list least most k = (j : ℕ) → j < k → outside least most (getD list
 
 -- the loop's range is read back from bits, the contract's is not
 module _ (list : List ℤ) (least most : ℤ) (number : ℕ) (low : SFits w64 least) (high : SFits w64 most) where
-  by-plain : {r : Checked} → r ≡ offender (rangeRow list (kept least) (kept most) number) → r ≡ offender (rangeRow list least most number)
+  by-plain : {r : Checked} → r ≡ offender (listInRange list (kept least) (kept most) number) → r ≡ offender (listInRange list least most number)
   by-plain {r} h =
-      subst (λ (v : ℤ). r ≡ offender (rangeRow list v most number)) (toZ-ofZ w64 least low)
-      (subst (λ (v : ℤ). r ≡ offender (rangeRow list (kept least) v number)) (toZ-ofZ w64 most high) h)
+      subst (λ (v : ℤ). r ≡ offender (listInRange list v most number)) (toZ-ofZ w64 least low)
+      (subst (λ (v : ℤ). r ≡ offender (listInRange list (kept least) v number)) (toZ-ofZ w64 most high) h)
 
   -- at the number k, after numbers inside
   module _ (k : ℕ) (inside : Inside list (kept least) (kept most) k) where
-    told : k < length list → outside (kept least) (kept most) (getD list k (pos 0)) ≡ true → refuse number k ≡ offender (rangeRow list least most number)
-    told h e = by-plain (first-bad (rangeRow list (kept least) (kept most) number) k h inside e)
+    told : k < length list → outside (kept least) (kept most) (getD list k (pos 0)) ≡ true → refuse number k ≡ offender (listInRange list least most number)
+    told h e = by-plain (first-bad (listInRange list (kept least) (kept most) number) k h inside e)
 
-    pub all-inside : length list ≤ k → Pass ≡ offender (rangeRow list least most number)
-    all-inside h = by-plain (none-bad (rangeRow list (kept least) (kept most) number) (λ j l. inside j (omega arith)))
+    pub all-inside : length list ≤ k → Pass ≡ offender (listInRange list least most number)
+    all-inside h = by-plain (none-bad (listInRange list (kept least) (kept most) number) (λ j l. inside j (omega arith)))
 
     module _ (small : mag (getD list k (pos 0)) < 2 ^ 63) where
-      pub below-refused : k < length list → ltZ (kept (getD list k (pos 0))) (kept least) ≡ true → refuse number k ≡ offender (rangeRow list least most number)
+      pub below-refused : k < length list → ltZ (kept (getD list k (pos 0))) (kept least) ≡ true → refuse number k ≡ offender (listInRange list least most number)
       below-refused h e = told h (read-below (getD list k (pos 0)) (kept least) (kept most) small e)
 
-      pub above-refused : k < length list → ltZ (kept (getD list k (pos 0))) (kept least) ≡ false → ltZ (kept most) (kept (getD list k (pos 0))) ≡ true → refuse number k ≡ offender (rangeRow list least most number)
+      pub above-refused : k < length list → ltZ (kept (getD list k (pos 0))) (kept least) ≡ false → ltZ (kept most) (kept (getD list k (pos 0))) ≡ true → refuse number k ≡ offender (listInRange list least most number)
       above-refused h e f = told h (read-above (getD list k (pos 0)) (kept least) (kept most) small e f)
 
       pub inside-more : ltZ (kept (getD list k (pos 0))) (kept least) ≡ false → ltZ (kept most) (kept (getD list k (pos 0))) ≡ false → Inside list (kept least) (kept most) (k + 1)
@@ -108,21 +108,21 @@ module _ (list : List ℤ) (least most : ℤ) (number : ℕ) (low : SFits w64 le
 
 -- the first k gaps join labels of the sheet
 abbrev pub Known : ℕ → (left right : List ℕ) → ℕ → Type 0
-Known labels left right k = (j : ℕ) → j < k → strangerRow labels left right .bad j ≡ false
+Known labels left right k = (j : ℕ) → j < k → listsOfLabels labels left right .bad j ≡ false
 
 -- at the gap k, after gaps that are known
 module _ (labels : ℕ) (left right : List ℕ) (k : ℕ) (known : Known labels left right k) where
-  pub left-refused : k < length left → labels ≤ getD left k 0 → refuse 7 k ≡ offender (strangerRow labels left right)
-  left-refused h l = first-bad (strangerRow labels left right) k h known (rw (le-ltb (getD left k 0) labels l))
+  pub left-refused : k < length left → labels ≤ getD left k 0 → refuse 7 k ≡ offender (listsOfLabels labels left right)
+  left-refused h l = first-bad (listsOfLabels labels left right) k h known (rw (le-ltb (getD left k 0) labels l))
 
-  pub right-refused : k < length left → getD left k 0 < labels → labels ≤ getD right k 0 → refuse 7 k ≡ offender (strangerRow labels left right)
-  right-refused h l r = first-bad (strangerRow labels left right) k h known (rw (lt-ltb (getD left k 0) labels l, le-ltb (getD right k 0) labels r))
+  pub right-refused : k < length left → getD left k 0 < labels → labels ≤ getD right k 0 → refuse 7 k ≡ offender (listsOfLabels labels left right)
+  right-refused h l r = first-bad (listsOfLabels labels left right) k h known (rw (lt-ltb (getD left k 0) labels l, le-ltb (getD right k 0) labels r))
 
   pub known-more : getD left k 0 < labels → getD right k 0 < labels → Known labels left right (k + 1)
   known-more l r = below-more _ k known (rw (lt-ltb (getD left k 0) labels l, lt-ltb (getD right k 0) labels r))
 
-  pub all-known : length left ≤ k → Pass ≡ offender (strangerRow labels left right)
-  all-known h = none-bad (strangerRow labels left right) (λ j l. known j (omega arith))
+  pub all-known : length left ≤ k → Pass ≡ offender (listsOfLabels labels left right)
+  all-known h = none-bad (listsOfLabels labels left right) (λ j l. known j (omega arith))
 
 -- ---- one check after another
 
@@ -160,7 +160,7 @@ module _ (wanted weight : List ℤ) (left right : List ℕ) (distance : List ℤ
 
   -- 3, from the sizes alone
   abbrev pub raggedly : ℕ → Bool
-  raggedly carried = raggedSizes (length wanted) (length left) (length weight) (length right) (length distance) carried
+  raggedly carried = raggedSizes (length wanted) (length left) (length weight) carried (unevenSizes (length left) (length right) (length distance))
 
   -- the table is the sizes' checks, and then the contents'
   pub table-parts : (room : Room)
@@ -185,8 +185,8 @@ module _ (wanted weight : List ℤ) (left right : List ℕ) (distance : List ℤ
 
   -- lists of one length are counted alike
   module _ (even : Even wanted weight left right distance) where
-    pub weights-counted : offender (rangeRow weight (pos weightLeast) (pos weightMost) 6) ≡ offender (badWeight sheet)
+    pub weights-counted : offender (listInRange weight (pos weightLeast) (pos weightMost) 6) ≡ offender (badWeight sheet)
     weights-counted = ap (λ n. offenderBelow 6 n (badWeight sheet .bad)) (even .weights)
 
-    pub distances-counted : offender (rangeRow distance (negℤ (pos distanceMost)) (pos distanceMost) 8) ≡ offender (badGap sheet)
+    pub distances-counted : offender (listInRange distance (negℤ (pos distanceMost)) (pos distanceMost) 8) ≡ offender (badGap sheet)
     distances-counted = ap (λ n. offenderBelow 8 n (badGap sheet .bad)) (even .distances)

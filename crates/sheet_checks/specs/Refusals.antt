@@ -18,9 +18,9 @@ use Rattle.ground.specs.Limits.{distanceMost, gapsMost, labelsMost, wantedMost,
 -- ---- what a check answers
 
 -- document 01's number for each case of a check's answer, and its place: each 0 where it passes
-abbrev pub refusedNumber : Checked → ℕ
-refusedNumber Pass = 0
-refusedNumber (Refused r) = r .number
+abbrev pub numberOf : Checked → ℕ
+numberOf Pass = 0
+numberOf (Refused r) = r .number
 
 abbrev pub refusedPlace : Checked → ℕ
 refusedPlace Pass = 0
@@ -58,14 +58,14 @@ offenderBelow number (suc n) bad = firstOf (offenderBelow number n bad) (cond (b
 abbrev pub offender : Row → Checked
 offender row = offenderBelow (row .number) (row .count) (row .bad)
 
--- 1 and 2, from the counts; 3 and 4, as they are met
-abbrev pub sizeTests : (labels gaps : ℕ) (ragged short : Bool) → List Checked
-sizeTests labels gaps ragged short =
-    test 1 (ltb labelsMost labels) ∷ test 2 (ltb gapsMost gaps) ∷ test 3 ragged ∷ test 4 short ∷ []
+-- 1 and 2, from the counts; 3 and 4, from whether they are met
+abbrev pub sizeTests : (labels gaps : ℕ) (isRagged isShort : Bool) → List Checked
+sizeTests labels gaps isRagged isShort =
+    test 1 (ltb labelsMost labels) ∷ test 2 (ltb gapsMost gaps) ∷ test 3 isRagged ∷ test 4 isShort ∷ []
 
--- then the rows: the table of every entry that is lent a sheet
-unfoldable pub tableOf : (labels gaps : ℕ) (ragged short : Bool) → List Row → Checked
-tableOf labels gaps ragged short rows = inTurn (sizeTests labels gaps ragged short ++ map offender rows)
+-- the table of every entry that is lent a sheet: 1 to 4, and then a row for each check of labels or gaps
+unfoldable pub tableOf : (labels gaps : ℕ) (isRagged isShort : Bool) → List Row → Checked
+tableOf labels gaps isRagged isShort checks = inTurn (sizeTests labels gaps isRagged isShort ++ map offender checks)
 
 -- ---- when each check is met
 
@@ -89,12 +89,18 @@ roomOf w = record {
 
 -- 3 "lists that belong together differ in length:
 -- places with weights, the three gap lists, the carried record with the gaps"
+abbrev pub raggedSizes : (labels gaps weights carried : ℕ) (isUneven : Bool) → Bool
+raggedSizes labels gaps weights carried isUneven = unequal weights labels || isUneven || unequal carried gaps
+
+abbrev pub unevenSizes : (gaps rights distances : ℕ) → Bool
+unevenSizes gaps rights distances = unequal rights gaps || unequal distances gaps
+
 abbrev pub uneven : LentGaps → Bool
-uneven (lists l r g) = unequal (length r) (length l) || unequal (length g) (length l)
+uneven (lists l r g) = unevenSizes (length l) (length r) (length g)
 uneven (records gs) = false
 
 abbrev pub ragged : Read → (carried : ℕ) → Bool
-ragged r carried = unequal (length (r .weight)) (labelCount r) || uneven (r .gaps) || unequal carried (gapCount r)
+ragged r carried = raggedSizes (labelCount r) (gapCount r) (length (r .weight)) carried (uneven (r .gaps))
 
 -- 4 "a place or ring buffer below the label count, or a multiplier buffer below the gap count"
 abbrev pub short : (labels gaps : ℕ) → Room → Bool
@@ -102,35 +108,31 @@ short labels gaps room =
     ltb (room .places) labels || ltb (room .«place_dens») labels || ltb (room .ring) labels
     || ltb (room .multipliers) gaps || ltb (room .«multiplier_dens») gaps
 
+-- a check that each number is in its range
+abbrev pub rangeRow : (number count : ℕ) (least most : ℤ) → (ℕ → ℤ) → Row
+rangeRow number count least most of = record { number = number; count = count; bad = λ k. outside least most (of k) }
+
 -- 5 "wanted place outside its range", 6 "weight outside its range"
 abbrev pub offPlate : Read → Row
-offPlate r = record {
-  number = 5;
-  count = labelCount r;
-  bad = λ k. outside (negℤ (pos wantedMost)) (pos wantedMost) (int (r .wanted) k);
-}
+offPlate r = rangeRow 5 (labelCount r) (negℤ (pos wantedMost)) (pos wantedMost) (int (r .wanted))
 
 abbrev pub badWeight : Read → Row
-badWeight r = record {
-  number = 6;
-  count = labelCount r;
-  bad = λ k. outside (pos weightLeast) (pos weightMost) (int (r .weight) k);
-}
+badWeight r = rangeRow 6 (labelCount r) (pos weightLeast) (pos weightMost) (int (r .weight))
 
--- 7 "left or right is no label of the sheet", 8 "gap outside its range"
-abbrev pub stranger : Read → Row
-stranger r = record {
+-- 7 "left or right is no label of the sheet"
+abbrev pub strangerRow : (labels gaps : ℕ) (left right : ℕ → ℕ) → Row
+strangerRow labels gaps left right = record {
   number = 7;
-  count = gapCount r;
-  bad = λ k. not (ltb (recordAt (r .gaps) k .left) (labelCount r)) || not (ltb (recordAt (r .gaps) k .right) (labelCount r));
+  count = gaps;
+  bad = λ k. not (ltb (left k) labels) || not (ltb (right k) labels);
 }
 
+abbrev pub stranger : Read → Row
+stranger r = strangerRow (labelCount r) (gapCount r) (λ k. recordAt (r .gaps) k .left) (λ k. recordAt (r .gaps) k .right)
+
+-- 8 "gap outside its range"
 abbrev pub badGap : Read → Row
-badGap r = record {
-  number = 8;
-  count = gapCount r;
-  bad = λ k. outside (negℤ (pos distanceMost)) (pos distanceMost) (recordAt (r .gaps) k .distance);
-}
+badGap r = rangeRow 8 (gapCount r) (negℤ (pos distanceMost)) (pos distanceMost) (λ k. recordAt (r .gaps) k .distance)
 
 abbrev pub rows : Read → List Row
 rows r = offPlate r ∷ badWeight r ∷ stranger r ∷ badGap r ∷ []

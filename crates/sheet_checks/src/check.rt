@@ -10,9 +10,9 @@ use ground::limits::WEIGHT_MOST;
 ghost use mathlib.Core.Path.{_≡_};
 ghost use lib.ListN.{length};
 ghost use Rattle.sheet_checks.specs.Lent.{sheetLent};
-ghost use Rattle.sheet_checks.specs.Refusals.{inTurn, offender, refuse, sizeTests, tableFor};
+ghost use Rattle.sheet_checks.specs.Refusals.{inTurn, offender, raggedSizes, refuse, sizeTests, tableFor, unevenSizes};
 ghost use Rattle.sheet_checks.specs.Refusals.{short as shortRoom};
-ghost use Rattle.sheet_checks.specs.Checks.{Even, contentsOf, raggedSizes, rangeRow, strangerRow};
+ghost use Rattle.sheet_checks.specs.Checks.{Even, contentsOf, listInRange, listsOfLabels};
 ghost use Rattle.ground.specs.Views.{before};
 
 // The sizes of what is lent besides the lists that are read.
@@ -38,7 +38,7 @@ fn refused(number: usize, place: usize) -> Checked
 
 // The first number of the list outside the range from least to most, as a refusal of this number.
 fn first_outside(list: &[i64], least: i64, most: i64, number: usize) -> Checked
-    ensures { λ r. ⌜ r ≡ offender (rangeRow (before list) least most number) ⌝ }
+    ensures { λ r. ⌜ r ≡ offender (listInRange (before list) least most number) ⌝ }
 {
     let mut k: usize = 0;
     while k < list.len() {
@@ -56,7 +56,7 @@ fn first_outside(list: &[i64], least: i64, most: i64, number: usize) -> Checked
 // 7: the first gap of which an end is no label of the sheet.
 fn first_stranger(labels: usize, left: &[usize], right: &[usize]) -> Checked
     requires { ⌜ length (now right) ≡ length (now left) ⌝ }
-    ensures { λ r. ⌜ r ≡ offender (strangerRow labels (before left) (before right)) ⌝ }
+    ensures { λ r. ⌜ r ≡ offender (listsOfLabels labels (before left) (before right)) ⌝ }
 {
     let mut gap: usize = 0;
     while gap < left.len() {
@@ -80,7 +80,7 @@ fn ragged(
     distances: usize,
     carried: usize,
 ) -> bool
-    ensures { λ r. ⌜ r ≡ raggedSizes labels gaps weights rights distances carried ⌝ }
+    ensures { λ r. ⌜ r ≡ raggedSizes labels gaps weights carried (unevenSizes gaps rights distances) ⌝ }
 {
     if weights != labels {
         return true;

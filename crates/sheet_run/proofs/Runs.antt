@@ -14,8 +14,8 @@ use Rattle.text_reading.specs.declared.Reading.the-variants.{Sheet, Refused}
 use Rattle.text_reading.specs.Texts.{Lists, Done}
 use Rattle.text_reading.specs.Parts.{ReadInto}
 use Rattle.text_listing.specs.Listing.{listing, refusedRecord, listingRoom}
-use Rattle.sheet_run.specs.Run.{zeros, blank, LaidOut, PrintedFor, Run}
-use Rattle.sheet_run.specs.Steps.{Holds, Answered, Printed, PrintedRead, lentOver}
+use Rattle.sheet_run.specs.Run.{zeros, blank, LaidOut, PrintedFor, Run, lentOver}
+use Rattle.sheet_run.specs.Steps.{Holds, Answered, Printed, PrintedRead}
 use Rattle.sheet_run.proofs.Refusals.{SmallReading, small-reading}
 use Rattle.sheet_run.proofs.Enough.{refused-most, laid-out-most}
 

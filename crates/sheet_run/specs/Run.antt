@@ -31,9 +31,19 @@ sheetRead c l = record {
   gaps = lists (take (c .gaps) (l .left)) (take (c .gaps) (l .right)) (take (c .gaps) (l .distance));
 }
 
--- what a run lends to write: room for every sheet, and "a carried record of zeros"
+-- what a run lends to write: room for every sheet, over these for the places, and "a carried record of zeros"
+abbrev pub lentOver : Counts → (nums dens : List ℤ) → Written
+lentOver c nums dens = record {
+  place-num = nums;
+  place-den = dens;
+  mult-num = zeros gapsMost;
+  mult-den = zeros gapsMost;
+  ring = replicate labelsMost 0;
+  carried = replicate (c .gaps) 0;
+}
+
 abbrev pub lent : Counts → Written
-lent c = record { place-num = zeros labelsMost; place-den = zeros labelsMost; mult-num = zeros gapsMost; mult-den = zeros gapsMost; ring = replicate labelsMost 0; carried = replicate (c .gaps) 0 }
+lent c = lentOver c (zeros labelsMost) (zeros labelsMost)
 
 -- the listing of what a layout call that keeps its promise answers, lent w to write;
 -- it "prints neither multipliers nor rings"
@@ -43,8 +53,8 @@ pub record LaidFrom (w : Written) (c : Counts) (l : Lists) (printed : List ℕ) 
   pub promise : Promise (sheetRead c l) w answer after
   pub listed : printed ≡ listing answer (take (c .labels) (after .place-num)) (take (c .labels) (after .place-den))
 
--- "The program starts from a carried record of zeros". No byte that is printed can show it: from any other record, and
--- whatever the buffers held, the same is printed (`start-unseen` in proofs/Decided).
+-- "The program starts from a carried record of zeros". No byte that is printed can show it: from any other record of
+-- that length, and whatever buffers of these sizes held, the same is printed (`start-unseen` in proofs/Decided).
 abbrev pub LaidOut : Counts → Lists → List ℕ → Type 0
 LaidOut c l printed = LaidFrom (lent c) c l printed
 

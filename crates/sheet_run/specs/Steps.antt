@@ -2,7 +2,7 @@
 use Prim.Native.Nat.{ℕ, _≤_}
 use mathlib.Core.Path.{_≡_}
 use mathlib.Core.List.{List}
-use lib.ListN.{length, take, replicate}
+use lib.ListN.{length, take}
 use lib.IntN.{ℤ}
 use Rattle.ground.specs.declared.Answer.{Answer}
 use Rattle.sheet_checks.specs.Lent.{Written}
@@ -11,7 +11,7 @@ use Rattle.ground.specs.Entries.{Filled}
 use Rattle.text_reading.specs.declared.Counts.{Counts}
 use Rattle.text_reading.specs.Texts.{Lists}
 use Rattle.text_listing.specs.Listing.{listingRoom}
-use Rattle.sheet_run.specs.Run.{zeros, sheetRead, LaidOut}
+use Rattle.sheet_run.specs.Run.{lentOver, sheetRead, LaidOut}
 use Rattle.ground.specs.Limits.{gapsMost, labelsMost}
 
 -- a sheet was read into these lists
@@ -23,10 +23,6 @@ pub record Holds (c : Counts) (l : Lists) : Type 0 where
   pub left : length (l .left) ≡ gapsMost
   pub right : length (l .right) ≡ gapsMost
   pub distance : length (l .distance) ≡ gapsMost
-
--- the buffers of a layout call, over these for the places
-abbrev pub lentOver : Counts → (nums dens : List ℤ) → Written
-lentOver c nums dens = record { place-num = nums; place-den = dens; mult-num = zeros gapsMost; mult-den = zeros gapsMost; ring = replicate labelsMost 0; carried = replicate (c .gaps) 0 }
 
 -- an answer that keeps the promise, with the places afterwards
 pub record Answered (c : Counts) (l : Lists) (nums dens : List ℤ) (a : Answer) (nums-after dens-after : List ℤ) : Type 0 where

@@ -11,7 +11,7 @@ abbrev pub answered : ℤ → Input
 answered (pos n) = Read n
 answered (negsuc k) = Failed
 
--- what was read lies at the front of the buffer
+-- the count is one of the buffer; that so many bytes of the input stand at its front is trusted of `read`
 abbrev pub Within : Input → List ℕ → Type 0
 Within (Read n) buffer = Counts n buffer
 Within Failed buffer = Unit {0}

@@ -62,9 +62,9 @@ abbrev pub numberOf : Listed → ℕ
 numberOf (listed.Written bytes) = 0
 numberOf (listed.Refused r) = r .number
 
-abbrev pub placeOf : Listed → ℕ
-placeOf (listed.Written bytes) = 0
-placeOf (listed.Refused r) = r .place
+abbrev pub refusedPlace : Listed → ℕ
+refusedPlace (listed.Written bytes) = 0
+refusedPlace (listed.Refused r) = r .place
 
 abbrev pub bytesOf : Listed → ℕ
 bytesOf (listed.Written bytes) = bytes

@@ -9,9 +9,9 @@ abbrev pub numberOf : Reading → ℕ
 numberOf (Sheet counts) = 0
 numberOf (Refused r) = r .number
 
-abbrev pub placeOf : Reading → ℕ
-placeOf (Sheet counts) = 0
-placeOf (Refused r) = r .place
+abbrev pub refusedPlace : Reading → ℕ
+refusedPlace (Sheet counts) = 0
+refusedPlace (Refused r) = r .place
 
 -- how many labels and gaps it read: none where it is refused
 abbrev pub labelsOf : Reading → ℕ

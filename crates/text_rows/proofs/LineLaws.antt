@@ -1,6 +1,7 @@
 -- The first line of a text, by the place of its LF.
 use Prim.Native.Nat.{ℕ, zero, suc, _+_, _-_, _≤_, _<_}
 use native.Mathlib.Omega.{arith}
+use mathlib.Core.Logic.{inl, inr}
 use mathlib.Core.Path.{_≡_, refl, sym, ap, _∙_}
 use mathlib.Core.Bool.{Bool, true, false, cond, _&&_}
 use mathlib.Core.List.{List, [], _∷_}
@@ -114,6 +115,7 @@ fed-line text from i h g e p =
       rest = omega arith;
       number = refl;
       parted = rw (size, ← after) (line-fed s n (rw length-drop (omega arith)) shown (unfed text (from .at) i p));
+      fed = inr (i, (refl, e));
     }
 
 -- the line at a position after which there is no LF
@@ -133,6 +135,7 @@ last-line text from i h g l p =
       rest = omega arith;
       number = refl;
       parted = rw (all, none) (line-whole s (omega arith) (rw size (unfed text (from .at) i p)));
+      fed = inl (omega arith);
     }
 
 -- the ends of `lineEnd` by a test of the byte before the LF

@@ -1,13 +1,14 @@
 -- The line at a position of a text, as the code finds it.
 use Prim.Native.Nat.{ℕ, zero, suc, _+_, _-_, _≤_, _<_}
 use mathlib.Core.Path.{_≡_}
+use mathlib.Core.Logic.{_⊎_}
 use mathlib.Core.Bool.{cond}
 use mathlib.Core.List.{List, _∷_}
 use lib.Dec.{eqb}
 use lib.ListN.{length, getD, take, drop}
 use Rattle.text_rows.specs.declared.lines.Cursor.{Cursor}
 use Rattle.text_rows.specs.declared.lines.Line.{Line}
-use Rattle.text_rows.specs.Lines.{lines, carriageReturn}
+use Rattle.text_rows.specs.Lines.{lines, carriageReturn, lineFeed}
 
 -- how long a line is whose LF stands after n bytes: a CR just before the LF is not part of it
 abbrev pub lineEnd : List ℕ → ℕ → ℕ
@@ -24,3 +25,5 @@ pub record LineAt (text : List ℕ) (from : Cursor) (l : Line) : Type 0 where
   pub parted :
       lines (drop (from .at) text)
       ≡ take (l .end - from .at) (drop (from .at) text) ∷ lines (drop (l .next .at) text)
+  -- the rest begins behind a LF, or there is none
+  pub fed : (l .next .at ≡ length text) ⊎ ((k : ℕ) × ((l .next .at ≡ k + 1) × (getD text k 0 ≡ lineFeed)))

@@ -197,6 +197,61 @@ fn limits(random: &mut Random, sheet: &mut Sheet) {
     }
 }
 
+/// A sheet on which the guess of a start mostly fails, so that the outer loop has to finish: 48 labels that are wanted
+/// against the order of their gaps, backwards or with the two halves swapped. Some have a ring.
+pub fn hard(random: &mut Random) -> Sheet {
+    let mut sheet = Sheet::default();
+    let backwards = random.once_in(2);
+    let (step, weight) = (random.pick(&[400, 8_000, 8_000]), random.pick(&[1, 5, 100]));
+    // a placement that the gaps are made to allow
+    let mut hidden = vec![0];
+    for label in 0..48 {
+        let stands = if backwards {
+            47 - label
+        } else {
+            (label + 24) % 48
+        };
+        sheet.label((stands - 24) * step, random.between(1, weight));
+        hidden.push(hidden[label as usize] + random.between(0, 300));
+    }
+    for right in 1..48 {
+        let most = hidden[right] - hidden[right - 1];
+        sheet.gap(right - 1, right, random.between(0, most));
+    }
+    if random.once_in(6) {
+        long_ring(random, &mut sheet);
+    }
+    order_gaps(random, &mut sheet, &hidden);
+    sheet
+}
+
+/// A gap from a label back to one before it: with the chain between the two it is a ring whose distances sum to 1.
+fn long_ring(random: &mut Random, sheet: &mut Sheet) {
+    let (left, right) = (random.below(24), 24 + random.below(24));
+    let way: i64 = sheet.distance[left..right].iter().sum();
+    sheet.gap(right, left, 1 - way);
+}
+
+/// Gaps between any two labels that the hidden placement meets; on some sheets a few are exact, as two opposite gaps.
+fn order_gaps(random: &mut Random, sheet: &mut Sheet, hidden: &[i64]) {
+    let mut exact = random.pick(&[0, 0, 8]);
+    let tight = random.once_in(2);
+    while sheet.gaps() < 191 {
+        let left = random.below(47);
+        let right = left + 1 + random.below(47 - left);
+        let most = hidden[right] - hidden[left];
+        if exact > 0 {
+            exact -= 1;
+            sheet.gap(left, right, most);
+            sheet.gap(right, left, -most);
+        } else if tight {
+            sheet.gap(left, right, random.between(0.max(most - 300), most));
+        } else {
+            sheet.gap(left, right, random.between(0, most.min(300)));
+        }
+    }
+}
+
 /// Breaks one rule or none: a list too long, uneven or short, or an entry out of its range.
 pub fn damage(random: &mut Random, sheet: &mut Sheet, lent: &mut Lent) {
     match random.below(12) {

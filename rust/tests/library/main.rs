@@ -16,6 +16,7 @@ mod solver;
 mod bench;
 mod c_example;
 mod generated;
+mod hard;
 mod laws;
 mod raw_calls;
 mod rounding;

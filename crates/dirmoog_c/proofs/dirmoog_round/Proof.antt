@@ -4,7 +4,7 @@ use mir.Syntax.{w64}
 use mir.ValLaws.{toZ-ofZ}
 use Rattle.exact.specs.Round.{rounded, numberOf, wholeOf}
 use borrow.Author.Needs.{needs}
-use Rattle.dirmoog_c.proofs.Telling.{told-at}
+use Rattle.dirmoog_c.proofs.Telling.{told-at, round-place}
 use Rattle.dirmoog_c.proofs.dirmoog_round.Statement.{statement}
 use Rattle.dirmoog_c.proofs.dirmoog_round.Tie as tie
 
@@ -31,9 +31,12 @@ returns : tie.Need-returns
 returns c =
     let whole = c .before .before .before .whole in (
       c .number .ensures ∙ ap numberOf (answered (c .before .before .before .before .before)),
-      told-at (c .before .before .before .before .before .before .args .out .now) 0 (c .before .before .put-signed .ensures)
-          (toZ-ofZ w64 (whole .result) (record { sfits = whole .ok }) ∙ whole .ensures
-          ∙ ap wholeOf (answered (c .before .before .before .before .before))),
+      (
+        told-at (c .before .before .before .before .before .before .args .out .now) 0 (c .before .before .put-signed .ensures)
+            (toZ-ofZ w64 (whole .result) (record { sfits = whole .ok }) ∙ whole .ensures
+            ∙ ap wholeOf (answered (c .before .before .before .before .before))),
+        round-place _ _,
+      ),
     )
 
 pub dirmoog-round-spec : {M : Type 1} → statement M

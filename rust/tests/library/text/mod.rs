@@ -1,7 +1,7 @@
 //! The sheet text and the listing.
 mod listing;
 mod read;
-mod reader;
+pub mod reader;
 mod run;
 mod typed;
 mod writer;

@@ -4,7 +4,7 @@ use borrow.Author.Needs.{needs}
 use mathlib.Core.Path.{ap, _∙_}
 use Rattle.ground.specs.declared.Answer.{Answer}
 use Rattle.text_listing.specs.Listing.{Listing, listedIn, numberOf, bytesOf}
-use Rattle.dirmoog_c.proofs.Telling.{told-at}
+use Rattle.dirmoog_c.proofs.Telling.{told-at, listing-place}
 use Rattle.dirmoog_c.proofs.text.dirmoog_listing.Statement.{statement}
 use Rattle.dirmoog_c.proofs.text.dirmoog_listing.Tie as tie
 
@@ -39,7 +39,10 @@ returns c =
       c .listed-number .ensures ∙ ap numberOf answer,
       (
         wrote .1 ∙ ap (λ (l : Listing). l .buffer) listing,
-        told-at (a .out .now) 0 (c .before .before .before .put .ensures) (c .before .before .before .before .listed-bytes .ensures ∙ ap bytesOf answer),
+        (
+          told-at (a .out .now) 0 (c .before .before .before .put .ensures) (c .before .before .before .before .listed-bytes .ensures ∙ ap bytesOf answer),
+          listing-place _ _ _ _,
+        ),
       ),
     )
 
