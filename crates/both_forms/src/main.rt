@@ -1,0 +1,189 @@
+// Runs the two layout calls and `ring_part`: the compiler behind their proofs is trusted.
+// Each bench sheet of document 01, those with P too, is laid out in both forms by `lay_out_both`, and what the
+// two calls answer and leave is compared and printed, a ring through the part that `ring_part` hands back.
+// `lay_out_records` itself lays it out once more, from marks at every gap and into buffers of sevens: its places
+// have to be the same; its multipliers, marks and ring may be others. Crate `rooms` lends the records.
+// A sheet has a line with its name and a line with its carried record in front, and a byte 0 behind.
+use bytes::scan::find;
+use ground::GapRecord;
+use ground::limits::GAPS;
+use ground::limits::GapBytes;
+use ground::limits::GapIndices;
+use ground::limits::GapInts;
+use ground::limits::LABELS;
+use layout::part::ring_part;
+use rooms::Laid;
+use rooms::lay_out_room;
+use rooms::lay_out_rooms;
+use side_by_side::print_laid;
+use side_by_side::print_ring;
+use text_reading::Reading;
+use text_reading::read::read_sheet;
+
+// The gaps of three lists as records.
+fn records_of(left: GapIndices, right: GapIndices, distance: GapInts) -> [GapRecord; GAPS] {
+    let mut records = [GapRecord {
+        left: 0,
+        right: 0,
+        distance: 0,
+    }; GAPS];
+    let mut e: usize = 0;
+    while e < GAPS {
+        records[e] = GapRecord {
+            left: left[e],
+            right: right[e],
+            distance: distance[e],
+        };
+        e += 1;
+    }
+    records
+}
+
+// Lays a sheet out as records, and prints what is answered and left.
+fn show_alone(
+    fill: i64,
+    marks: GapBytes,
+    records: [GapRecord; GAPS],
+    wanted: &[i64],
+    weight: &[i64],
+    gaps: usize,
+    lists: Laid,
+) {
+    if GAPS < gaps {
+        return;
+    }
+    let alone = lay_out_room(fill, marks, wanted, weight, records, gaps);
+    io::write_all(1, b" records from other marks, beside lists\n");
+    print_laid(wanted.len(), gaps, alone, lists);
+}
+
+// Lays a sheet out in both forms, and prints what is answered and left.
+fn show_both(
+    marks: GapBytes,
+    records: [GapRecord; GAPS],
+    wanted: &[i64],
+    weight: &[i64],
+    left: &[usize],
+    right: &[usize],
+    distance: &[i64],
+) {
+    let labels = wanted.len();
+    let gaps = left.len();
+    if GAPS < gaps {
+        return;
+    }
+    let pair = lay_out_rooms(
+        0,
+        marks,
+        marks,
+        wanted,
+        weight,
+        left,
+        right,
+        distance,
+        records,
+        gaps,
+    );
+    let lists = pair.lists;
+    io::write_all(1, b" lists, beside records\n");
+    let other = pair.records;
+    print_laid(labels, gaps, lists, other);
+    show_alone(7, [1u8; GAPS], records, wanted, weight, gaps, lists);
+}
+
+// Reads a sheet's text and lays it out. Every text of the bench is a sheet.
+fn show_text(marks: GapBytes, text: &[u8]) {
+    let mut wanted = [0i64; LABELS];
+    let mut weight = [0i64; LABELS];
+    let mut left = [0usize; GAPS];
+    let mut right = [0usize; GAPS];
+    let mut distance = [0i64; GAPS];
+    let found = read_sheet(
+        text,
+        &mut wanted,
+        &mut weight,
+        &mut left,
+        &mut right,
+        &mut distance,
+    );
+    let Reading::Sheet(counts) = found else {
+        return;
+    };
+    let labels = counts.labels;
+    let gaps = counts.gaps;
+    if LABELS < labels {
+        return;
+    }
+    if GAPS < gaps {
+        return;
+    }
+    show_both(
+        marks,
+        records_of(left, right, distance),
+        &wanted[0..labels],
+        &weight[0..labels],
+        &left[0..gaps],
+        &right[0..gaps],
+        &distance[0..gaps],
+    );
+}
+
+// A carried record: marks where the line has a 1.
+fn marks_of(line: &[u8]) -> GapBytes {
+    let mut marks = [0u8; GAPS];
+    let mut e: usize = 0;
+    while e < GAPS {
+        if line.len() <= e {
+            return marks;
+        }
+        if line[e] == b'1' {
+            marks[e] = 1;
+        }
+        e += 1;
+    }
+    marks
+}
+
+// Prints a sheet's name, and what is answered to it.
+fn show_entry(entry: &[u8]) {
+    let name = find(entry, 0, entry.len(), b'\n');
+    if name == entry.len() {
+        return;
+    }
+    let head = name + 1;
+    io::write_all(1, &entry[0..head]);
+    let line = find(entry, head, entry.len(), b'\n');
+    if line == entry.len() {
+        return;
+    }
+    let text = line + 1;
+    show_text(marks_of(&entry[head..line]), &entry[text..]);
+}
+
+// Takes the sheets apart.
+fn show_all(sheets: &[u8]) {
+    let mut at: usize = 0;
+    while at < sheets.len() {
+        let end = find(sheets, at, sheets.len(), 0);
+        show_entry(&sheets[at..end]);
+        at = end + 1;
+    }
+}
+
+// The parts of a ring buffer: a length beyond it gives the empty part.
+fn show_parts() {
+    let ring = [5usize, 6, 7];
+    io::write_all(
+        1,
+        b"the parts of lengths 2 and 4 of a buffer of 5, 6 and 7\n",
+    );
+    print_ring(ring_part(&ring, 2), ring_part(&ring, 2));
+    print_ring(ring_part(&ring, 4), &[]);
+}
+
+fn main() {
+    let mut sheets = io::large_buffer();
+    let got = io::read_full(0, &mut sheets);
+    show_all(&sheets[0..got]);
+    show_parts();
+}

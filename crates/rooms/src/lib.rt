@@ -1,0 +1,160 @@
+// The layout calls as functions of values: buffers that hold one number go in, and come back as the call left them.
+use ground::Answer;
+use ground::GapRecord;
+use ground::limits::GAPS;
+use ground::limits::GapBytes;
+use ground::limits::GapInts;
+use ground::limits::LABELS;
+use ground::limits::LabelIndices;
+use ground::limits::LabelInts;
+use record_arrays::lay_out_array;
+use record_arrays::lay_out_both_array;
+ghost use mathlib.Core.Path.{_≡_};
+ghost use Prim.Native.Nat.{_≤_};
+ghost use lib.ListN.{take};
+ghost use Rattle.ground.specs.Limits.{gapsMost};
+ghost use Rattle.sheet_checks.specs.Lent.{sheetLent};
+ghost use Rattle.layout.specs.Promise.{Promise};
+ghost use Rattle.two_calls.specs.TwoCalls.{BothPromised};
+ghost use Rattle.record_arrays.specs.Arrays.{arrayLent};
+ghost use Rattle.rooms.specs.Rooms.{filled, written, laidOf};
+
+// What a call writes, and the carried record.
+pub struct Room {
+    pub place_num: LabelInts,
+    pub place_den: LabelInts,
+    pub mult_num: GapInts,
+    pub mult_den: GapInts,
+    pub ring: LabelIndices,
+    pub carried: GapBytes,
+}
+
+// What a call answers and leaves.
+pub struct Laid {
+    pub answer: Answer,
+    pub room: Room,
+}
+
+// The same of two calls: one is lent lists, the other records.
+pub struct Pair {
+    pub lists: Laid,
+    pub records: Laid,
+}
+
+impl Laid {
+    fn new(
+        answer: Answer,
+        place_num: LabelInts,
+        place_den: LabelInts,
+        mult_num: GapInts,
+        mult_den: GapInts,
+        ring: LabelIndices,
+        carried: GapBytes,
+    ) -> Self
+        ensures { λ r. ⌜ r ≡ laidOf answer «place_num» «place_den» «mult_num» «mult_den» ring carried ⌝ }
+    {
+        let room = Room {
+            place_num,
+            place_den,
+            mult_num,
+            mult_den,
+            ring,
+            carried,
+        };
+        Self { answer, room }
+    }
+}
+
+// Lays out a sheet whose gaps are the first `count` records of an array.
+pub fn lay_out_room(
+    fill: i64,
+    mut carried: GapBytes,
+    wanted: &[i64],
+    weight: &[i64],
+    gaps: [GapRecord; GAPS],
+    count: usize,
+) -> Laid
+    requires { ⌜ count ≤ gapsMost ⌝ }
+    ensures { λ r.
+        let sheet = arrayLent wanted weight gaps count in
+        ⌜ Promise sheet (filled fill (take count carried)) (r .answer) (written count (r .room)) ⌝ }
+{
+    let mut num = [fill; LABELS];
+    let mut den = [fill; LABELS];
+    let mut mult_num = [fill; GAPS];
+    let mut mult_den = [fill; GAPS];
+    let mut ring = [0usize; LABELS];
+    let answer = lay_out_array(
+        wanted,
+        weight,
+        gaps,
+        count,
+        &mut carried[..count],
+        &mut num,
+        &mut den,
+        &mut mult_num,
+        &mut mult_den,
+        &mut ring,
+    );
+    Laid::new(answer, num, den, mult_num, mult_den, ring, carried)
+}
+
+// Lays out a sheet twice: its gaps are lent as three lists, and as the first `count` records of an array.
+pub fn lay_out_rooms(
+    fill: i64,
+    mut carried: GapBytes,
+    mut carried2: GapBytes,
+    wanted: &[i64],
+    weight: &[i64],
+    left: &[usize],
+    right: &[usize],
+    distance: &[i64],
+    gaps: [GapRecord; GAPS],
+    count: usize,
+) -> Pair
+    requires { ⌜ count ≤ gapsMost ⌝ }
+    ensures { λ r.
+        let sheet = sheetLent wanted weight left right distance in
+        let second = arrayLent wanted weight gaps count in
+        ⌜ BothPromised sheet (filled fill (take count carried)) (r .lists .answer) (written count (r .lists .room))
+        second (filled fill (take count carried2)) (r .records .answer) (written count (r .records .room)) ⌝ }
+{
+    let mut num = [fill; LABELS];
+    let mut den = [fill; LABELS];
+    let mut mult_num = [fill; GAPS];
+    let mut mult_den = [fill; GAPS];
+    let mut ring = [0usize; LABELS];
+    let mut num2 = [fill; LABELS];
+    let mut den2 = [fill; LABELS];
+    let mut mult_num2 = [fill; GAPS];
+    let mut mult_den2 = [fill; GAPS];
+    let mut ring2 = [0usize; LABELS];
+    let both = lay_out_both_array(
+        wanted,
+        weight,
+        left,
+        right,
+        distance,
+        &mut carried[..count],
+        &mut num,
+        &mut den,
+        &mut mult_num,
+        &mut mult_den,
+        &mut ring,
+        wanted,
+        weight,
+        gaps,
+        count,
+        &mut carried2[..count],
+        &mut num2,
+        &mut den2,
+        &mut mult_num2,
+        &mut mult_den2,
+        &mut ring2,
+    );
+    let first = both.first;
+    let second = both.second;
+    let lists = Laid::new(first, num, den, mult_num, mult_den, ring, carried);
+    let records = Laid::new(second, num2, den2, mult_num2, mult_den2, ring2, carried2);
+    Pair { lists, records }
+}
