@@ -4,7 +4,11 @@
 // `lay_out_records` itself lays it out once more, from marks at every gap and into buffers of sevens: its places
 // have to be the same; its multipliers, marks and ring may be others. Crate `rooms` lends the records.
 // A sheet has a line with its name and a line with its carried record in front, and a byte 0 behind.
+mod compare;
+
 use bytes::scan::find;
+use compare::print_laid;
+use compare::print_ring;
 use ground::GapRecord;
 use ground::limits::GAPS;
 use ground::limits::GapBytes;
@@ -15,8 +19,6 @@ use layout::part::ring_part;
 use rooms::Laid;
 use rooms::lay_out_room;
 use rooms::lay_out_rooms;
-use side_by_side::print_laid;
-use side_by_side::print_ring;
 use text_reading::Reading;
 use text_reading::read::read_sheet;
 

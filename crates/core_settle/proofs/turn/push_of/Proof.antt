@@ -5,67 +5,52 @@ use Rattle.core_settle.proofs.Turning.{turned-fits, push-forth, push-ba
 use Rattle.core_settle.proofs.turn.push_of.Statement.{statement}
 use Rattle.core_settle.proofs.turn.push_of.Tie as tie
 
--- src/outer.rt:37:25
 mul-t8 : tie.Need-mul-t8
 mul-t8 c = search needs
 
--- src/outer.rt:37:25
 element-copy-out-t11 : tie.Need-element-copy-out-t11
 element-copy-out-t11 c = search needs
 
--- src/outer.rt:38:23
 mul-t13 : tie.Need-mul-t13
 mul-t13 c = search needs
 
--- src/outer.rt:38:23
 element-copy-out-t16 : tie.Need-element-copy-out-t16
 element-copy-out-t16 c = search needs
 
--- src/outer.rt:39:27
 mul-turned : tie.Need-mul-turned
 mul-turned c = search needs
 
--- src/outer.rt:39:27
 element-copy-out-turned : tie.Need-element-copy-out-turned
 element-copy-out-turned c = search needs
 
--- src/outer.rt:39:20
 turned-requires : tie.Need-turned-requires
 turned-requires c κs =
     let s = c .before .before .before .before in
     turned-fits (int (s .args .distance .now) (s .args .e .0)) (s .pre .1)
 
--- src/outer.rt:36:9
 returns : tie.Need-returns
 returns c =
     let s = c .before .before .before .before .before in
     push-back (s .args .left .now) (s .args .right .now) (s .args .distance .now) (s .args .e .0) (s .pre .1) (c .before .before .before .before .if1 .taken) (c .turned .ensures)
 
--- src/outer.rt:43:21
 mul-t23 : tie.Need-mul-t23
 mul-t23 c = search needs
 
--- src/outer.rt:43:21
 element-copy-out-t26 : tie.Need-element-copy-out-t26
 element-copy-out-t26 c = search needs
 
--- src/outer.rt:44:19
 mul-t28 : tie.Need-mul-t28
 mul-t28 c = search needs
 
--- src/outer.rt:44:19
 element-copy-out-t31 : tie.Need-element-copy-out-t31
 element-copy-out-t31 c = search needs
 
--- src/outer.rt:45:16
 mul-t33 : tie.Need-mul-t33
 mul-t33 c = search needs
 
--- src/outer.rt:45:16
 element-copy-out-t36 : tie.Need-element-copy-out-t36
 element-copy-out-t36 c = search needs
 
--- src/outer.rt:30:1
 returns-2 : tie.Need-returns-2
 returns-2 c =
     let s = c .before .before .before .before in

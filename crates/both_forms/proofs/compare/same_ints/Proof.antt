@@ -1,9 +1,9 @@
--- `side_by_side::same_ints` is safe and ends: the measure is what is left of the first list.
+-- `both_forms::compare::same_ints` is safe and ends: the measure is what is left of the first list.
 use Prim.Native.Nat.{_≤_, _-_}
 use lib.ListN.{length}
 use borrow.Author.Needs.{needs}
-use Rattle.side_by_side.proofs.same_ints.Statement.{statement}
-use Rattle.side_by_side.proofs.same_ints.Tie as tie
+use Rattle.both_forms.proofs.compare.same_ints.Statement.{statement}
+use Rattle.both_forms.proofs.compare.same_ints.Tie as tie
 
 abbrev Inv-loop : tie.InvT-loop
 Inv-loop a b i₀ i = i ≤ length a

@@ -1,9 +1,9 @@
--- `side_by_side::print_fractions` is safe and ends: the measure is what is left of the numerators.
+-- `both_forms::compare::print_fractions` is safe and ends: the measure is what is left of the numerators.
 use Prim.Native.Nat.{_≤_, _-_}
 use lib.ListN.{length}
 use borrow.Author.Needs.{needs}
-use Rattle.side_by_side.proofs.print_fractions.Statement.{statement}
-use Rattle.side_by_side.proofs.print_fractions.Tie as tie
+use Rattle.both_forms.proofs.compare.print_fractions.Statement.{statement}
+use Rattle.both_forms.proofs.compare.print_fractions.Tie as tie
 
 abbrev Inv-loop : tie.InvT-loop
 Inv-loop num den i₀ i = i ≤ length num

@@ -1,9 +1,9 @@
--- `side_by_side::print_ring` is safe and ends: the measure is what is left of the part.
+-- `both_forms::compare::print_ring` is safe and ends: the measure is what is left of the part.
 use Prim.Native.Nat.{_≤_, _-_}
 use lib.ListN.{length}
 use borrow.Author.Needs.{needs}
-use Rattle.side_by_side.proofs.print_ring.Statement.{statement}
-use Rattle.side_by_side.proofs.print_ring.Tie as tie
+use Rattle.both_forms.proofs.compare.print_ring.Statement.{statement}
+use Rattle.both_forms.proofs.compare.print_ring.Tie as tie
 
 abbrev Inv-loop : tie.InvT-loop
 Inv-loop part other same₀ k₀ t6 same k = k ≤ length part

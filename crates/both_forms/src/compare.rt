@@ -102,7 +102,7 @@ fn print_marks(gaps: usize, carried: GapBytes, carried2: GapBytes)
 }
 
 // Writes the gap numbers of a ring.
-pub fn print_ring(part: &[usize], other: &[usize]) {
+pub(crate) fn print_ring(part: &[usize], other: &[usize]) {
     io::write_all(1, b"  ring");
     let mut same = part.len() == other.len();
     let mut k: usize = 0;
@@ -175,7 +175,7 @@ fn print_placed(labels: usize, gaps: usize, room: Room, other: Room)
 }
 
 // Writes what a call answered and left of a sheet with so many labels and gaps, beside another call of it.
-pub fn print_laid(labels: usize, gaps: usize, laid: Laid, other: Laid) {
+pub(crate) fn print_laid(labels: usize, gaps: usize, laid: Laid, other: Laid) {
     let answer = laid.answer;
     let answer2 = other.answer;
     let room = laid.room;
