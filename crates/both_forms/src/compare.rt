@@ -2,13 +2,13 @@
 use ground::Answer;
 use ground::Refusal;
 use ground::limits::GAPS;
-use ground::limits::GapBytes;
 use ground::limits::GapInts;
 use ground::limits::LABELS;
 use ground::limits::LabelInts;
 use ground::signs::magnitude;
 use layout::part::ring_part;
 use rooms::Laid;
+use rooms::RecordBytes;
 use rooms::Room;
 ghost use mathlib.Core.Path.{_≡_};
 ghost use Prim.Native.Nat.{_≤_};
@@ -94,7 +94,7 @@ fn print_multipliers(gaps: usize, num: GapInts, den: GapInts, num2: GapInts, den
 }
 
 // Writes whether the marks of so many gaps are the same.
-fn print_marks(gaps: usize, carried: GapBytes, carried2: GapBytes)
+fn print_marks(gaps: usize, carried: RecordBytes, carried2: RecordBytes)
     requires { ⌜ gaps ≤ gapsMost ⌝ }
 {
     io::write_all(1, b"  marks");

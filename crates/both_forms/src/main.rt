@@ -11,24 +11,25 @@ use compare::print_laid;
 use compare::print_ring;
 use ground::GapRecord;
 use ground::limits::GAPS;
-use ground::limits::GapBytes;
 use ground::limits::GapIndices;
 use ground::limits::GapInts;
 use ground::limits::LABELS;
 use layout::part::ring_part;
+use record_arrays::RECORDS;
 use rooms::Laid;
+use rooms::RecordBytes;
 use rooms::lay_out_room;
 use rooms::lay_out_rooms;
 use text_reading::Reading;
 use text_reading::read::read_sheet;
 
 // The gaps of three lists as records.
-fn records_of(left: GapIndices, right: GapIndices, distance: GapInts) -> [GapRecord; GAPS] {
+fn records_of(left: GapIndices, right: GapIndices, distance: GapInts) -> [GapRecord; RECORDS] {
     let mut records = [GapRecord {
         left: 0,
         right: 0,
         distance: 0,
-    }; GAPS];
+    }; RECORDS];
     let mut e: usize = 0;
     while e < GAPS {
         records[e] = GapRecord {
@@ -44,25 +45,22 @@ fn records_of(left: GapIndices, right: GapIndices, distance: GapInts) -> [GapRec
 // Lays a sheet out as records, and prints what is answered and left.
 fn show_alone(
     fill: i64,
-    marks: GapBytes,
-    records: [GapRecord; GAPS],
+    marks: RecordBytes,
+    records: [GapRecord; RECORDS],
     wanted: &[i64],
     weight: &[i64],
-    gaps: usize,
+    count: u8,
     lists: Laid,
 ) {
-    if GAPS < gaps {
-        return;
-    }
-    let alone = lay_out_room(fill, marks, wanted, weight, records, gaps);
+    let alone = lay_out_room(fill, marks, wanted, weight, records, count);
     io::write_all(1, b" records from other marks, beside lists\n");
-    print_laid(wanted.len(), gaps, alone, lists);
+    print_laid(wanted.len(), count as usize, alone, lists);
 }
 
 // Lays a sheet out in both forms, and prints what is answered and left.
 fn show_both(
-    marks: GapBytes,
-    records: [GapRecord; GAPS],
+    marks: RecordBytes,
+    records: [GapRecord; RECORDS],
     wanted: &[i64],
     weight: &[i64],
     left: &[usize],
@@ -74,6 +72,7 @@ fn show_both(
     if GAPS < gaps {
         return;
     }
+    let count = gaps as u8;
     let pair = lay_out_rooms(
         0,
         marks,
@@ -84,17 +83,17 @@ fn show_both(
         right,
         distance,
         records,
-        gaps,
+        count,
     );
     let lists = pair.lists;
     io::write_all(1, b" lists, beside records\n");
     let other = pair.records;
     print_laid(labels, gaps, lists, other);
-    show_alone(7, [1u8; GAPS], records, wanted, weight, gaps, lists);
+    show_alone(7, [1u8; RECORDS], records, wanted, weight, count, lists);
 }
 
 // Reads a sheet's text and lays it out. Every text of the bench is a sheet.
-fn show_text(marks: GapBytes, text: &[u8]) {
+fn show_text(marks: RecordBytes, text: &[u8]) {
     let mut wanted = [0i64; LABELS];
     let mut weight = [0i64; LABELS];
     let mut left = [0usize; GAPS];
@@ -131,10 +130,10 @@ fn show_text(marks: GapBytes, text: &[u8]) {
 }
 
 // A carried record: marks where the line has a 1.
-fn marks_of(line: &[u8]) -> GapBytes {
-    let mut marks = [0u8; GAPS];
+fn marks_of(line: &[u8]) -> RecordBytes {
+    let mut marks = [0u8; RECORDS];
     let mut e: usize = 0;
-    while e < GAPS {
+    while e < RECORDS {
         if line.len() <= e {
             return marks;
         }

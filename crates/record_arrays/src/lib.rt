@@ -3,23 +3,23 @@
 // and does nothing else.
 use ground::Answer;
 use ground::GapRecord;
-use ground::limits::GAPS;
 use records::lay_out_records;
 use two_calls::Both;
 use two_calls::lay_out_both;
-ghost use Prim.Native.Nat.{_≤_};
-ghost use Rattle.ground.specs.Limits.{gapsMost};
 ghost use Rattle.sheet_checks.specs.Lent.{roomLent, sheetLent};
 ghost use Rattle.layout.specs.Promise.{Promise};
 ghost use Rattle.two_calls.specs.TwoCalls.{BothPromised};
 ghost use Rattle.record_arrays.specs.Arrays.{arrayLent};
 
+// Records of an array that a byte counts.
+pub const RECORDS: usize = 256;
+
 // Lays out a sheet whose gaps are the first `count` records of an array.
 pub fn lay_out_array(
     wanted: &[i64],
     weight: &[i64],
-    gaps: [GapRecord; GAPS],
-    count: usize,
+    gaps: [GapRecord; RECORDS],
+    count: u8,
     carried: &mut [u8],
     place_num: &mut [i64],
     place_den: &mut [i64],
@@ -27,7 +27,6 @@ pub fn lay_out_array(
     mult_den: &mut [i64],
     ring: &mut [usize],
 ) -> Answer
-    requires { ⌜ count ≤ gapsMost ⌝ }
     ensures { λ r.
         let room = roomLent carried «place_num» «place_den» «mult_num» «mult_den» ring in
         ⌜ Promise (arrayLent wanted weight gaps count) (room .entry) r (room .exit) ⌝ }
@@ -35,7 +34,7 @@ pub fn lay_out_array(
     lay_out_records(
         wanted,
         weight,
-        &gaps[..count],
+        &gaps[..count as usize],
         carried,
         place_num,
         place_den,
@@ -60,8 +59,8 @@ pub fn lay_out_both_array(
     ring: &mut [usize],
     second_wanted: &[i64],
     second_weight: &[i64],
-    gaps: [GapRecord; GAPS],
-    count: usize,
+    gaps: [GapRecord; RECORDS],
+    count: u8,
     second_carried: &mut [u8],
     second_place_num: &mut [i64],
     second_place_den: &mut [i64],
@@ -69,7 +68,6 @@ pub fn lay_out_both_array(
     second_mult_den: &mut [i64],
     second_ring: &mut [usize],
 ) -> Both
-    requires { ⌜ count ≤ gapsMost ⌝ }
     ensures { λ r.
         let sheet = sheetLent wanted weight left right distance in
         let room = roomLent carried «place_num» «place_den» «mult_num» «mult_den» ring in
@@ -92,7 +90,7 @@ pub fn lay_out_both_array(
         ring,
         second_wanted,
         second_weight,
-        &gaps[..count],
+        &gaps[..count as usize],
         second_carried,
         second_place_num,
         second_place_den,

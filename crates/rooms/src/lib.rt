@@ -2,22 +2,23 @@
 use ground::Answer;
 use ground::GapRecord;
 use ground::limits::GAPS;
-use ground::limits::GapBytes;
 use ground::limits::GapInts;
 use ground::limits::LABELS;
 use ground::limits::LabelIndices;
 use ground::limits::LabelInts;
+use record_arrays::RECORDS;
 use record_arrays::lay_out_array;
 use record_arrays::lay_out_both_array;
 ghost use mathlib.Core.Path.{_≡_};
-ghost use Prim.Native.Nat.{_≤_};
 ghost use lib.ListN.{take};
-ghost use Rattle.ground.specs.Limits.{gapsMost};
 ghost use Rattle.sheet_checks.specs.Lent.{sheetLent};
 ghost use Rattle.layout.specs.Promise.{Promise};
 ghost use Rattle.two_calls.specs.TwoCalls.{BothPromised};
 ghost use Rattle.record_arrays.specs.Arrays.{arrayLent};
 ghost use Rattle.rooms.specs.Rooms.{filled, written, laidOf};
+
+// A byte for each record of an array.
+pub type RecordBytes = [u8; RECORDS];
 
 // What a call writes, and the carried record.
 pub struct Room {
@@ -26,7 +27,7 @@ pub struct Room {
     pub mult_num: GapInts,
     pub mult_den: GapInts,
     pub ring: LabelIndices,
-    pub carried: GapBytes,
+    pub carried: RecordBytes,
 }
 
 // What a call answers and leaves.
@@ -49,7 +50,7 @@ impl Laid {
         mult_num: GapInts,
         mult_den: GapInts,
         ring: LabelIndices,
-        carried: GapBytes,
+        carried: RecordBytes,
     ) -> Self
         ensures { λ r. ⌜ r ≡ laidOf answer «place_num» «place_den» «mult_num» «mult_den» ring carried ⌝ }
     {
@@ -68,13 +69,12 @@ impl Laid {
 // Lays out a sheet whose gaps are the first `count` records of an array.
 pub fn lay_out_room(
     fill: i64,
-    mut carried: GapBytes,
+    mut carried: RecordBytes,
     wanted: &[i64],
     weight: &[i64],
-    gaps: [GapRecord; GAPS],
-    count: usize,
+    gaps: [GapRecord; RECORDS],
+    count: u8,
 ) -> Laid
-    requires { ⌜ count ≤ gapsMost ⌝ }
     ensures { λ r.
         let sheet = arrayLent wanted weight gaps count in
         ⌜ Promise sheet (filled fill (take count carried)) (r .answer) (written count (r .room)) ⌝ }
@@ -89,7 +89,7 @@ pub fn lay_out_room(
         weight,
         gaps,
         count,
-        &mut carried[..count],
+        &mut carried[..count as usize],
         &mut num,
         &mut den,
         &mut mult_num,
@@ -102,17 +102,16 @@ pub fn lay_out_room(
 // Lays out a sheet twice: its gaps are lent as three lists, and as the first `count` records of an array.
 pub fn lay_out_rooms(
     fill: i64,
-    mut carried: GapBytes,
-    mut carried2: GapBytes,
+    mut carried: RecordBytes,
+    mut carried2: RecordBytes,
     wanted: &[i64],
     weight: &[i64],
     left: &[usize],
     right: &[usize],
     distance: &[i64],
-    gaps: [GapRecord; GAPS],
-    count: usize,
+    gaps: [GapRecord; RECORDS],
+    count: u8,
 ) -> Pair
-    requires { ⌜ count ≤ gapsMost ⌝ }
     ensures { λ r.
         let sheet = sheetLent wanted weight left right distance in
         let second = arrayLent wanted weight gaps count in
@@ -135,7 +134,7 @@ pub fn lay_out_rooms(
         left,
         right,
         distance,
-        &mut carried[..count],
+        &mut carried[..count as usize],
         &mut num,
         &mut den,
         &mut mult_num,
@@ -145,7 +144,7 @@ pub fn lay_out_rooms(
         weight,
         gaps,
         count,
-        &mut carried2[..count],
+        &mut carried2[..count as usize],
         &mut num2,
         &mut den2,
         &mut mult_num2,

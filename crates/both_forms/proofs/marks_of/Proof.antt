@@ -5,10 +5,10 @@ use Rattle.both_forms.proofs.marks_of.Statement.{statement}
 use Rattle.both_forms.proofs.marks_of.Tie as tie
 
 abbrev Inv-loop : tie.InvT-loop
-Inv-loop line marks₀ e₀ marks e = e ≤ 192
+Inv-loop line marks₀ e₀ marks e = e ≤ 256
 
 abbrev μ-loop : tie.MeasureT-loop
-μ-loop line marks₀ e₀ marks e = 192 - e
+μ-loop line marks₀ e₀ marks e = 256 - e
 
 loop-holds : tie.Need-loop-holds Inv-loop μ-loop
 loop-holds c = search needs

@@ -42,7 +42,7 @@ returns c =
     let told = c .before .before .before .before .before .before .before .lay-out-array in
     let s = c .before .before .before .before .before .before .before .before .before .before .before .before .before .before in
     let front = as-left (s .args .count) (told .last .1 .1 .1 .1 .0) (drop (s .args .count) (s .args .t2)) (s .args .t2) in
-    let after = front (told .kept .1 .1 .1 .1 .0) (c .new .ensures) (omega (arith, s .good .1 .0, s .pre)) in
+    let after = front (told .kept .1 .1 .1 .1 .0) (c .new .ensures) (omega (arith, s .good .1 .0, s .fits .count)) in
     promised after (rw (toZ-ofZ w64 (s .args .fill) (s .fits .fill)) at (told .ensures))
 
 pub lay-out-room-spec : {M : Type 1} → statement M

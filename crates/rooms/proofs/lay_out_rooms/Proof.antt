@@ -70,9 +70,9 @@ returns c =
     let last = told .last .1 .1 .1 .1 .1 in
     let kept = told .kept .1 .1 .1 .1 .1 in
     let front = as-left (s .args .count) (last .0) (drop (s .args .count) (s .args .t2)) (s .args .t2) in
-    let lists = front (kept .0) (c .before .new .ensures) (omega (arith, s .good .1 .0, s .pre)) in
+    let lists = front (kept .0) (c .before .new .ensures) (omega (arith, s .good .1 .0, s .fits .count)) in
     let front2 = as-left (s .args .count) (last .1 .1 .1 .1 .1 .1 .1 .1 .1 .1 .0) (drop (s .args .count) (s .args .t3)) (s .args .t3) in
-    let records = front2 (kept .1 .1 .1 .1 .1 .1 .1 .1 .1 .1 .0) (c .new2 .ensures) (omega (arith, s .good .1 .1 .0, s .pre)) in
+    let records = front2 (kept .1 .1 .1 .1 .1 .1 .1 .1 .1 .1 .0) (c .new2 .ensures) (omega (arith, s .good .1 .1 .0, s .fits .count)) in
     both-promised lists records (rw (toZ-ofZ w64 (s .args .fill) (s .fits .fill)) at (told .ensures))
 
 pub lay-out-rooms-spec : {M : Type 1} → statement M
