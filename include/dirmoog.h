@@ -15,7 +15,7 @@
  *    1   crowded       more than 48 labels                                                                  0
  *    2   over-gapped   more than 192 gaps                                                                   0
  *    3   ragged        lists that belong together differ in length                                          0
- *    4   short room    a list that is written is too short                                                  0
+ *    4   short room    a list that is written, other than out, is too short                                 0
  *    5   off plate     a wanted place outside -200,000 to 200,000                                           label
  *    6   bad weight    a weight outside 1 to 100                                                            label
  *    7   stranger      left or right is no label of the sheet                                               gap
@@ -27,6 +27,10 @@
  *
  * The checks run in the order 11, 10, then 1 to 9, each over the whole sheet before the next; the place is the first
  * offender. Labels and gaps count from 0.
+ *
+ * dirmoog_layout gives 1 to 9, dirmoog_read 11, 10, 1, 2 and 4, and dirmoog_listing 1 to 4. 12 belongs to the calls over
+ * single fractions: dirmoog_round gives 12, and dirmoog_slack 12, then 8. These two and dirmoog_listing tell no place: it
+ * is always 0.
  */
 #ifndef DIRMOOG_H
 #define DIRMOOG_H
@@ -63,7 +67,8 @@ extern "C" {
  *
  * 0, placed: the first entries of place_num, place_den, mult_num and mult_den hold fractions in lowest terms with a
  *   denominator above zero, and carried holds 1 for marked gaps, else 0. Entries beyond stay, and so does ring. out is 0, 0.
- *   A place has a denominator of at most 4,800 and lies within 1,140,000 of zero, so that dirmoog_round refuses none.
+ *   A place has a denominator of at most 4,800 and lies within 1,140,000 of zero, so that neither dirmoog_round nor
+ *   dirmoog_slack refuses one.
  *   Multipliers show that no other places cost less: none is negative, one is 0 where its gap is not tight, and for each
  *   label 2 x weight x (place - wanted) is the sum over the gaps with it on the right less that over those with it on the
  *   left. Marked gaps are tight, no ring can be walked along them, and an unmarked gap has multiplier 0.
@@ -93,6 +98,22 @@ uint64_t dirmoog_layout(const int64_t *wanted, size_t wanted_len,
 uint64_t dirmoog_round(int64_t num, int64_t den, int64_t *out, size_t out_len);
 
 /*
+ * Tells how far a gap is from closing: its slack, the right place less the left place less the distance, in lowest terms
+ * with a denominator above zero. It is negative where the gap is broken, and 0/1 where it is tight. Refused with 12 for
+ * either place, then with 8 for the distance; the place of both is 0.
+ *
+ *   left_num, left_den        the left label's place; it need not be in lowest terms
+ *   right_num, right_den      the right label's place; nor need this
+ *   distance   the gap's distance
+ *   out        the slack's numerator, then its denominator; 0, 1 where it is refused. What fits is written: an out of 1
+ *              entry loses the denominator, and an empty one the numerator too. Entries beyond the second stay.
+ */
+uint64_t dirmoog_slack(int64_t left_num, int64_t left_den,
+                       int64_t right_num, int64_t right_den,
+                       int64_t distance,
+                       int64_t *out, size_t out_len);
+
+/*
  * Reads a sheet's text into lists. Refused with 11, 10, 1, 2 or 4.
  *
  * The text is comma-separated records, each ended by CRLF or LF; the last end may lack. A record has four fields: "label",
@@ -119,14 +140,24 @@ uint64_t dirmoog_read(const uint8_t *text, size_t text_len,
                       uint64_t *out, size_t out_len);
 
 /*
- * Writes the listing of an answer: "place", label, numerator, denominator, whole unit for each label, or "refused", number,
- * place; every record ended by CRLF. Refused with 1 (more than 48 labels), 3 or 4, all at place 0.
+ * Writes the listing of an answer: for placed "place", label, numerator, denominator, whole unit for each label, and after
+ * these "slack", gap, numerator, denominator for each gap, all in the order of their numbers; else "refused", number, place
+ * alone. Every record is ended by CRLF. The call is refused with 1 (more than 48 labels), 2 (more than 192 gaps), 3 or 4, in
+ * this order, all at place 0.
  *
- *   number     the answer's number: 0 for placed
+ *   number     the answer's number: 0 for placed. Where it is not 0, the five lists below are without effect.
  *   place      the answer's place; without effect where number is 0
- *   place_num  numerators of the places, one per label (their count is place_num_len); without effect where number is not 0
+ * To read, one entry per label (their count is place_num_len):
+ *   place_num  numerators of the places
  *   place_den  denominators of the places; as many entries. A fraction that dirmoog_round refuses has whole unit 0.
- *   text       the listing is written to its front. 2,048 bytes are room for every listing of dirmoog_layout's places.
+ * To read, one entry per gap (their count is left_len):
+ *   left       number of the left label
+ *   right      number of the right label; as many entries
+ *   distance   distance; as many entries. The slack of a gap is what dirmoog_slack gives, so 0/1 where that is refused; it
+ *              is 0/1 too where an end is no label.
+ * To write:
+ *   text       the listing is written to its front. 24,576 bytes are room for every listing; one of dirmoog_layout's places
+ *              needs less.
  *   out        the count of bytes written, or 0 where it is refused. An empty out loses it. Entries beyond the first stay.
  *
  * The bytes beyond stay. Where it is refused, out alone is written.
@@ -134,6 +165,9 @@ uint64_t dirmoog_read(const uint8_t *text, size_t text_len,
 uint64_t dirmoog_listing(uint64_t number, uint64_t place,
                          const int64_t *place_num, size_t place_num_len,
                          const int64_t *place_den, size_t place_den_len,
+                         const uint64_t *left, size_t left_len,
+                         const uint64_t *right, size_t right_len,
+                         const int64_t *distance, size_t distance_len,
                          uint8_t *text, size_t text_len,
                          uint64_t *out, size_t out_len);
 

@@ -3,13 +3,14 @@
 //! A sheet has labels, each with a wanted place and a weight, and gaps, each of which asks that its
 //! right label stand at least its distance to the right of its left label. [`lay_out`] finds the
 //! placement with the least sum of weight times squared move, in exact fractions, or refuses the
-//! sheet. Any slices may be lent: nothing panics. A call needs less than 32 KiB of stack.
+//! sheet; [`slack`] tells how far a gap is from closing. Any slices may be lent: nothing panics. A
+//! call needs less than 32 KiB of stack.
 //!
 //! What is proved is the library. Nothing proves this package: its `unsafe` calls, how it turns
 //! numbers into enums, and [`ring_part`], which is its own.
 //!
 //! ```
-//! use dirmoog::{lay_out, round, Answer, Room, Rounded, Sheet};
+//! use dirmoog::{lay_out, round, slack, Answer, Fraction, Room, Rounded, Sheet, SlackAnswer};
 //!
 //! let sheet = Sheet {
 //!     wanted: &[0, 3],
@@ -32,12 +33,17 @@
 //! assert_eq!((place_num, place_den), ([-3, 9], [2, 2]));
 //! assert_eq!((mult_num, mult_den), ([3], [1]));
 //! assert_eq!(round(place_num[0], place_den[0]), Rounded::Whole(-2));
+//!
+//! // the two labels touch: nothing is left between them
+//! let place = |label: usize| Fraction { num: place_num[label], den: place_den[label] };
+//! let nothing = Fraction { num: 0, den: 1 };
+//! assert_eq!(slack(place(0), place(1), 6), SlackAnswer::Slack(nothing));
 //! ```
 
 pub mod raw;
 mod text;
 
-pub use text::{read_sheet, write_listing, Counts, Listed, Lists, Reading};
+pub use text::{read_sheet, write_listing, Counts, Listable, Listed, Lists, Reading};
 
 /// A refusal: its number in the refusal table, its place (a label, a gap or a line, else 0) and,
 /// with 9, the ring's length.
@@ -59,6 +65,21 @@ pub enum Answer {
 #[derive(Clone, Copy, Debug, PartialEq, Eq)]
 pub enum Rounded {
     Whole(i64),
+    Refused(Refusal),
+}
+
+/// A numerator over a denominator. Any two numbers may be lent; what the library answers is in lowest
+/// terms, with a denominator above zero.
+#[derive(Clone, Copy, Debug, PartialEq, Eq)]
+pub struct Fraction {
+    pub num: i64,
+    pub den: i64,
+}
+
+/// The slack of a gap, or a refusal.
+#[derive(Clone, Copy, Debug, PartialEq, Eq)]
+pub enum SlackAnswer {
+    Slack(Fraction),
     Refused(Refusal),
 }
 
@@ -192,5 +213,44 @@ pub fn round(num: i64, den: i64) -> Rounded {
     match number {
         0 => Rounded::Whole(out[0]),
         _ => Rounded::Refused(refusal(number, [0, 0])),
+    }
+}
+
+/// How far a gap is from closing: right place less left place less distance, in lowest terms, and
+/// negative where the gap is broken. The places need not be in lowest terms. Refused with 12 for
+/// either place, then with 8 for the distance.
+///
+/// ```
+/// use dirmoog::{slack, Fraction, Refusal, SlackAnswer};
+///
+/// let place = |num, den| Fraction { num, den };
+/// let given = |num, den| SlackAnswer::Slack(Fraction { num, den });
+/// assert_eq!(slack(place(6, 4), place(5, 1), 2), given(3, 2));
+/// assert_eq!(slack(place(1, 2), place(1, 3), 0), given(-1, 6));
+///
+/// let refused = |number| SlackAnswer::Refused(Refusal { number, place: 0, ring: 0 });
+/// assert_eq!(slack(place(1, 0), place(1, 1), 30_000), refused(12));
+/// assert_eq!(slack(place(0, 1), place(0, 1), 20_001), refused(8));
+/// ```
+pub fn slack(left: Fraction, right: Fraction, distance: i64) -> SlackAnswer {
+    let mut out = [0; 2];
+    // SAFETY: the pointer and the length are those of a slice that is borrowed for writing.
+    let number = unsafe {
+        raw::dirmoog_slack(
+            left.num,
+            left.den,
+            right.num,
+            right.den,
+            distance,
+            out.as_mut_ptr(),
+            out.len(),
+        )
+    };
+    match number {
+        0 => SlackAnswer::Slack(Fraction {
+            num: out[0],
+            den: out[1],
+        }),
+        _ => SlackAnswer::Refused(refusal(number, [0, 0])),
     }
 }

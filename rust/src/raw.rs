@@ -5,8 +5,8 @@
 //! enough, and nothing checks it (the header has the figures).
 //!
 //! What fits into `out` is written, and the rest is lost: one of 1 entry loses the ring's length
-//! ([`dirmoog_layout`]) or the count of gaps ([`dirmoog_read`]), and an empty one all but the number
-//! that is returned.
+//! ([`dirmoog_layout`]), the denominator ([`dirmoog_slack`]) or the count of gaps ([`dirmoog_read`]),
+//! and an empty one all but the number that is returned.
 
 extern "C" {
     pub fn dirmoog_layout(
@@ -38,6 +38,16 @@ extern "C" {
 
     pub fn dirmoog_round(num: i64, den: i64, out: *mut i64, out_len: usize) -> u64;
 
+    pub fn dirmoog_slack(
+        left_num: i64,
+        left_den: i64,
+        right_num: i64,
+        right_den: i64,
+        distance: i64,
+        out: *mut i64,
+        out_len: usize,
+    ) -> u64;
+
     pub fn dirmoog_read(
         text: *const u8,
         text_len: usize,
@@ -62,6 +72,12 @@ extern "C" {
         place_num_len: usize,
         place_den: *const i64,
         place_den_len: usize,
+        left: *const u64,
+        left_len: usize,
+        right: *const u64,
+        right_len: usize,
+        distance: *const i64,
+        distance_len: usize,
         text: *mut u8,
         text_len: usize,
         out: *mut u64,

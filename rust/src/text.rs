@@ -82,23 +82,37 @@ pub fn read_sheet(text: &[u8], lists: &mut Lists<'_>) -> Reading {
     }
 }
 
-/// Writes the listing of an answer to the front of a buffer: a record per label, or the refusal's.
-/// A refusal with the number 0, which no call answers, is listed as placed.
+/// What a listing is made of: one place per label, then one entry per gap.
+#[derive(Clone, Copy, Debug, Default)]
+pub struct Listable<'a> {
+    pub place_num: &'a [i64],
+    pub place_den: &'a [i64],
+    pub left: &'a [u64],
+    pub right: &'a [u64],
+    pub distance: &'a [i64],
+}
+
+/// Writes the listing of an answer to the front of a buffer: a record per label with its place, then
+/// one per gap with its slack; or the refusal's, for which the lists are without effect. A refusal
+/// with the number 0, which no call answers, is listed as placed. 24,576 bytes are room for every
+/// listing.
 ///
 /// ```
-/// use dirmoog::{write_listing, Answer, Listed};
+/// use dirmoog::{write_listing, Answer, Listable, Listed};
 ///
+/// let lists = Listable {
+///     place_num: &[-3, 9],
+///     place_den: &[2, 2],
+///     left: &[0],
+///     right: &[1],
+///     distance: &[6],
+/// };
 /// let mut text = [0; 64];
-/// let listed = write_listing(Answer::Placed, &[-3, 9], &[2, 2], &mut text);
-/// assert_eq!(listed, Listed::Written(32));
-/// assert_eq!(&text[..32], b"place,0,-3,2,-2\r\nplace,1,9,2,5\r\n");
+/// let listed = write_listing(Answer::Placed, &lists, &mut text);
+/// assert_eq!(listed, Listed::Written(45));
+/// assert_eq!(&text[..45], b"place,0,-3,2,-2\r\nplace,1,9,2,5\r\nslack,0,0,1\r\n");
 /// ```
-pub fn write_listing(
-    answer: Answer,
-    place_num: &[i64],
-    place_den: &[i64],
-    text: &mut [u8],
-) -> Listed {
+pub fn write_listing(answer: Answer, lists: &Listable<'_>, text: &mut [u8]) -> Listed {
     let (number, place) = match answer {
         Answer::Placed => (0, 0),
         Answer::Refused(refusal) => (refusal.number, refusal.place),
@@ -109,10 +123,16 @@ pub fn write_listing(
         raw::dirmoog_listing(
             number,
             place,
-            place_num.as_ptr(),
-            place_num.len(),
-            place_den.as_ptr(),
-            place_den.len(),
+            lists.place_num.as_ptr(),
+            lists.place_num.len(),
+            lists.place_den.as_ptr(),
+            lists.place_den.len(),
+            lists.left.as_ptr(),
+            lists.left.len(),
+            lists.right.as_ptr(),
+            lists.right.len(),
+            lists.distance.as_ptr(),
+            lists.distance.len(),
             text.as_mut_ptr(),
             text.len(),
             out.as_mut_ptr(),

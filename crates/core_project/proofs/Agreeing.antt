@@ -95,7 +95,7 @@ module _ {s t : Sheet} (a : Agree s t) where
             };
         fractions = λ e h. c .fractions e (in-gaps (e .0) h);
         lawful = λ e h. move-gap (λ (g : Gap). Lawful (g .kind) (m e)) e (in-gaps (e .0) h) (c .lawful e (in-gaps (e .0) h));
-        slack = λ e h. move-gap (λ (g : Gap). ¬ (Tight p g) → m e ≃ whole (pos 0)) e (in-gaps (e .0) h) (c .slack e (in-gaps (e .0) h));
+        loose = λ e h. move-gap (λ (g : Gap). ¬ (Tight p g) → m e ≃ whole (pos 0)) e (in-gaps (e .0) h) (c .loose e (in-gaps (e .0) h));
         balance = λ i h. balanced i (in-labels (i .0) h);
         self = λ e h. move-gap (λ (g : Gap). g .left ≡ g .right → m e ≃ whole (pos 0)) e (in-gaps (e .0) h) (c .self e (in-gaps (e .0) h));
       }

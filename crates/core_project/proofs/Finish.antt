@@ -5,8 +5,9 @@ use mathlib.Core.Bool.{Bool}
 use mathlib.Core.List.{List, [], _∷_}
 use Prim.Native.Nat.{ℕ, _<_}
 use lib.IntN.{ℤ, pos, negℤ, _+ℤ_, _-ℤ_, _*ℤ_}
-use lib.Signed.{_≤ℤ_}
+use lib.Signed.{_≤ℤ_, _<ℤ_}
 use lib.Dec.{eqb}
+use Rattle.exact.specs.declared.Fraction.{Fraction}
 use Rattle.exact.specs.Fraction.{IsFraction}
 use Rattle.algebra.proofs.Ring.{ring, quotes}
 use Rattle.algebra.specs.Sum.{ind}
@@ -14,7 +15,7 @@ use Rattle.exact.proofs.Fractions.{AtScale}
 use Rattle.ground.specs.declared.Label.{Label}
 use Rattle.ground.specs.declared.GapNumber.{GapNumber}
 use Rattle.least_move.specs.Sheet.{Kind, at-least, exactly}
-use Rattle.least_move.specs.Placement.{Placement}
+use Rattle.least_move.specs.Placement.{Placement, HoldsWith}
 use Rattle.least_move.specs.Multipliers.{Multipliers, Conditions}
 use Rattle.least_move.specs.Marks.{Marks}
 use Rattle.least_move.proofs.Bridge.{Meets-all}
@@ -24,7 +25,8 @@ use Rattle.least_move.proofs.Sides.{places-agree}
 use Rattle.least_move.proofs.Unscaled.{sound-proper, conditions-of, marks-of, meets-of-numbers, reduced-scale}
 use Rattle.ground.specs.Entries.{nat, int}
 use Rattle.core_forest.specs.Problem.{Problem, Limits, marksOf, numbersOf, kindOf, withKind, sheetFrom}
-use Rattle.core_worst_gap.specs.WorstGap.{HoldsBy, reachOf, standsAt}
+use Rattle.core_worst_gap.specs.WorstGap.{slackAt}
+use Rattle.core_worst_gap.proofs.WorstGap.{slack-least, slack-none}
 use Rattle.core_standing.specs.Standing.{Standing, AllHold}
 use Rattle.core_settle.specs.declared.Found.{Found}
 use Rattle.core_settle.specs.declared.Found.the-variants.{Placed, Ring}
@@ -60,18 +62,20 @@ loads-agree z F N M X Y Λ Γ indep one two same e l =
 
 -- ---- the problem
 
-holds-least : (k : Kind) (reach stands : ℤ) → HoldsBy k reach stands → k ≡ at-least → reach ≤ℤ stands
-holds-least k reach stands h q = rw q at h
+-- the sign of the slack, by the gap's kind
+holds-least : (k : Kind) (slack : Fraction) → HoldsWith k slack → k ≡ at-least → pos 0 ≤ℤ slack .num
+holds-least k slack h q = rw q at h
 
-holds-exactly : (k : Kind) (reach stands : ℤ) → HoldsBy k reach stands → k ≡ exactly → reach ≡ stands
-holds-exactly k reach stands h q = rw q at h
+holds-exactly : (k : Kind) (slack : Fraction) → HoldsWith k slack → k ≡ exactly → slack .num ≡ pos 0
+holds-exactly k slack h q = rw q at h
 
 -- every gap is met at the scale of a settled state
 meets-settled : {p : Problem} {mark : List ℕ} {num den load over : List ℤ} → Limits p → (s : Standing p mark num den load over) → AllHold p num den → Meets-all (sheetFrom p) (s .settled .N) (s .settled .X)
 meets-settled {p} {mark} {num} {den} lim s all e l =
-    meets-of-numbers (numbersOf p) (s .settled .N) (s .settled .X) (int num) (int den) (limits-sound lim) (s .settled .above) (λ i h. above-of (s .found i h .den-least)) (s .settled .places) e l
-    (holds-least (kindOf (nat (p .kind) e)) (reachOf num den (nat (p .left) e) (nat (p .right) e) (int (p .distance) e)) (standsAt num den (nat (p .left) e) (nat (p .right) e)) (all e l))
-    (holds-exactly (kindOf (nat (p .kind) e)) (reachOf num den (nat (p .left) e) (nat (p .right) e) (int (p .distance) e)) (standsAt num den (nat (p .left) e) (nat (p .right) e)) (all e l))
+    let placed-above : (i : ℕ) → i < p .labels → pos 0 <ℤ int den i = λ i h. above-of (s .found i h .den-least) in
+    meets-of-numbers (numbersOf p) (s .settled .N) (s .settled .X) (int num) (int den) (limits-sound lim) (s .settled .above) placed-above (s .settled .places) e l
+    (λ q. slack-least (p .left) (p .right) (p .distance) num den e (placed-above (nat (p .left) e) (lim .left-in e l)) (placed-above (nat (p .right) e) (lim .right-in e l)) (holds-least (kindOf (nat (p .kind) e)) (slackAt (p .left) (p .right) (p .distance) num den e) (all e l) q))
+    (λ q. slack-none (p .left) (p .right) (p .distance) num den e (placed-above (nat (p .left) e) (lim .left-in e l)) (placed-above (nat (p .right) e) (lim .right-in e l)) (holds-exactly (kindOf (nat (p .kind) e)) (slackAt (p .left) (p .right) (p .distance) num den e) (all e l) q))
 
 -- the balance's loads are the settled multipliers
 settled-loads : {p : Problem} {mark : List ℕ} {num den load over : List ℤ} → Limits p → (s : Standing p mark num den load over) → (e : ℕ) → e < p .gaps → s .settled .Λ e *ℤ int over e ≡ s .settled .N *ℤ int load e

@@ -24,6 +24,7 @@ use Rattle.core_balance.proofs.Placing.{places-kind}
 use Rattle.core_balance.specs.Balance.{Balanced, PartBalanced, Remarked}
 use Rattle.core_balance.proofs.Remarking.{part-remarked}
 use Rattle.core_worst_gap.specs.WorstGap.{Lacks, WorstOf}
+use Rattle.core_worst_gap.proofs.WorstGap.{slack-below, slack-above}
 use Rattle.core_worst_gap.specs.declared.Worst.{Worst}
 use Rattle.core_worst_gap.specs.declared.Worst.the-variants.{Gap}
 use Rattle.core_ring.specs.Way.{Climbable, WayWritten}
@@ -76,7 +77,9 @@ lacks-pushes {p} {mark} {num} {den} lim st e false l k =
       reach-most = lim .distance-most e l;
       pushes = (refl, refl, refl, k .0);
       pushed = push-start (numbersOf p) (marksOf mark) (nat (p .left) e) (nat (p .right) e) (int (p .distance) e) (int num) (int den) (lim .left-in e l) (lim .right-in e l)
-          (den-above lim mark num den (st .found) (nat (p .left) e) (lim .left-in e l)) (den-above lim mark num den (st .found) (nat (p .right) e) (lim .right-in e l)) (st .settled) (k .1);
+          (den-above lim mark num den (st .found) (nat (p .left) e) (lim .left-in e l)) (den-above lim mark num den (st .found) (nat (p .right) e) (lim .right-in e l)) (st .settled)
+          (slack-below (p .left) (p .right) (p .distance) num den e (den-above lim mark num den (st .found) (nat (p .left) e) (lim .left-in e l))
+          (den-above lim mark num den (st .found) (nat (p .right) e) (lim .right-in e l)) (k .1));
     }
 lacks-pushes {p} {mark} {num} {den} lim st e true l k =
     record {
@@ -86,7 +89,9 @@ lacks-pushes {p} {mark} {num} {den} lim st e true l k =
       reach-most = rw (turned-size (int (p .distance) e)) (lim .distance-most e l);
       pushes = (refl, refl, refl, k .0);
       pushed = push-start (numbersOf p) (marksOf mark) (nat (p .right) e) (nat (p .left) e) (pos 0 -ℤ int (p .distance) e) (int num) (int den) (lim .right-in e l) (lim .left-in e l)
-          (den-above lim mark num den (st .found) (nat (p .right) e) (lim .right-in e l)) (den-above lim mark num den (st .found) (nat (p .left) e) (lim .left-in e l)) (st .settled) (k .1);
+          (den-above lim mark num den (st .found) (nat (p .right) e) (lim .right-in e l)) (den-above lim mark num den (st .found) (nat (p .left) e) (lim .left-in e l)) (st .settled)
+          (slack-above (p .left) (p .right) (p .distance) num den e (den-above lim mark num den (st .found) (nat (p .left) e) (lim .left-in e l))
+          (den-above lim mark num den (st .found) (nat (p .right) e) (lim .right-in e l)) (k .1));
     }
 
 pub one-lacks : (left right : List ℕ) (distance : List ℤ) (kind : List ℕ) (num den : List ℤ) (gaps : ℕ) {w : Worst} {e : GapNumber} {backwards : Bool} → w ≡ Gap e backwards → WorstOf left right distance kind num den gaps w → (e .0 < gaps) × Lacks left right distance kind num den (e .0) backwards

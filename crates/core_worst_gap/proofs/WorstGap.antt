@@ -1,5 +1,5 @@
--- What the search for a gap that does not hold leans on: the sizes of its products, what a lack says of a gap, and the search's turns.
-use mathlib.Core.Path.{_≡_, refl, sym, subst, _∙_, ap, ap₂}
+-- What the search for a gap that does not hold leans on: the size of a slack, what its sign says of the gap, and the search's turns.
+use mathlib.Core.Path.{_≡_, refl, sym, subst, _∙_, ap}
 use mathlib.Core.Logic.{_⊎_, inl, inr, _≢_}
 use mathlib.Core.Bool.{Bool, true, false, cond}
 use mathlib.Core.List.{List, [], _∷_}
@@ -13,120 +13,127 @@ use lib.IntN.{ℤ, pos, negℤ, natAbs, _+ℤ_, _-ℤ_, _*ℤ_}
 use lib.Signed.{_≤ℤ_, _<ℤ_, ltZ}
 use mir.Syntax.{w64}
 use mir.Val.{SFits}
-use Rattle.algebra.proofs.Whole.{parts-+, pp-neg, nn-neg, le-parts, parts-le, lt-parts, parts-lt, le-antisym, *ℤ-above}
-use Rattle.algebra.proofs.Ring.{quotes, ring}
+use Rattle.algebra.proofs.Whole.{le-parts, parts-le, parts-lt, le-antisym, parts-natAbs}
+use Rattle.algebra.proofs.Ring.{quotes, le-given, lt-given, eq-given, le-goal, lt-goal, eq-goal}
 use Rattle.algebra.proofs.Quotient.{kept, kept-as, fits-as, natAbs-*, natAbs-+, natAbs-neg, lt-of-test, le-of-test, natAbs-negated}
+use Rattle.exact.specs.declared.Fraction.{Fraction}
+use Rattle.exact.specs.Fraction.{IsFraction, fractionAt, _⊖_}
+use Rattle.exact.specs.Slack.{Measurable, difference}
+use Rattle.exact.proofs.Slacks.{difference-above, sign-least, sign-least-back, sign-none, sign-none-back, sign-below, sign-below-back, sign-above, sign-above-back}
 use Rattle.ground.specs.declared.GapNumber.{GapNumber}
 use Rattle.least_move.specs.Sheet.{exactly, ignored}
+use Rattle.least_move.specs.Placement.{HoldsWith}
 use Rattle.ground.specs.Entries.{nat, int}
 use Rattle.core_forest.specs.Problem.{kindOf}
 use Rattle.core_worst_gap.specs.declared.Lead.{Lead}
 use Rattle.core_worst_gap.specs.declared.Worst.{Worst}
 use Rattle.core_worst_gap.specs.declared.Worst.the-variants.{Nothing, Gap}
-use Rattle.core_worst_gap.specs.WorstGap.{reachOf, standsAt, HoldsBy, GapHolds, Lacks, WorstOf, leadOf, PlaceInRange, Comparable}
+use Rattle.core_worst_gap.specs.WorstGap.{slackAt, GapHolds, Lacks, WorstOf, leadOf, PlaceInRange, Comparable}
+
+-- the slack of gap e as it is computed, over the product of the denominators
+abbrev pub apartAt : (left right : List ℕ) (distance num den : List ℤ) → ℕ → Fraction
+apartAt left right distance num den e = difference (fractionAt num den (nat left e)) (fractionAt num den (nat right e)) (int distance e)
+
+-- ---- what the sign of a slack says, by cross multiplication
+
+module _ (left right : List ℕ) (distance num den : List ℤ) (e : ℕ)
+    (left-above : IsFraction (fractionAt num den (nat left e))) (right-above : IsFraction (fractionAt num den (nat right e))) where
+  abbrev computed : Fraction
+  computed = apartAt left right distance num den e
+
+  -- its sign is that of the slack in lowest terms
+  computed-above : IsFraction computed
+  computed-above = difference-above (fractionAt num den (nat left e)) (fractionAt num den (nat right e)) (int distance e) left-above right-above
+
+  -- the numbers of the gap: its left place, its right place and its distance
+  abbrev ρ : List ℤ
+  ρ = int num (nat left e) ∷ int den (nat left e) ∷ int num (nat right e) ∷ int den (nat right e) ∷ int distance e ∷ []
+
+  -- place(left) + distance and place(right), over the product of the denominators
+  abbrev reach : ℤ
+  reach = int num (nat left e) *ℤ int den (nat right e) +ℤ int distance e *ℤ (int den (nat left e) *ℤ int den (nat right e))
+
+  abbrev stands : ℤ
+  stands = int num (nat right e) *ℤ int den (nat left e)
+
+  -- below zero: the right label stands short of what the gap reaches
+  pub slack-below : slackAt left right distance num den e .num <ℤ pos 0 → stands <ℤ reach
+  slack-below h = lt-goal ρ (search quotes depth 12) (search quotes depth 12) (omega (arith, lt-given ρ (search quotes depth 12) (search quotes depth 12) (sign-below-back computed computed-above h)))
+
+  -- above zero: seen from the right label, the left one does
+  pub slack-above : pos 0 <ℤ slackAt left right distance num den e .num → (int num (nat left e) *ℤ int den (nat right e)) <ℤ (int num (nat right e) *ℤ int den (nat left e) +ℤ (pos 0 -ℤ int distance e) *ℤ (int den (nat right e) *ℤ int den (nat left e)))
+  slack-above h = lt-goal ρ (search quotes depth 12) (search quotes depth 12) (omega (arith, lt-given ρ (search quotes depth 12) (search quotes depth 12) (sign-above-back computed computed-above h)))
+
+  -- not below zero, and zero
+  pub slack-least : pos 0 ≤ℤ slackAt left right distance num den e .num → reach ≤ℤ stands
+  slack-least h = le-goal ρ (search quotes depth 12) (search quotes depth 12) (omega (arith, le-given ρ (search quotes depth 12) (search quotes depth 12) (sign-least-back computed computed-above h)))
+
+  pub slack-none : slackAt left right distance num den e .num ≡ pos 0 → reach ≡ stands
+  slack-none h = eq-goal ρ (search quotes depth 12) (search quotes depth 12) (omega (arith, eq-given ρ (search quotes depth 12) (search quotes depth 12) (sign-none-back computed computed-above h)))
 
 -- ---- sizes, and what is read back from 64 bits
-
--- how much place b lacks to stand h to the right of place a
-abbrev pub lackOf : List ℤ → List ℤ → ℕ → ℕ → ℤ → ℤ
-lackOf num den a b h = reachOf num den a b h -ℤ standsAt num den a b
 
 product-most : (x y : ℤ) {m n : ℕ} → natAbs x ≤ m → natAbs y ≤ n → natAbs (x *ℤ y) ≤ m * n
 product-most x y h k = rw natAbs-* (mul-le-mul h k)
 
+less-most : (x y : ℤ) {m n : ℕ} → natAbs x ≤ m → natAbs y ≤ n → natAbs (x -ℤ y) ≤ m + n
+less-most x y h k = omega (arith, natAbs-+ x (negℤ y), natAbs-neg y)
+
 module _ {num den : List ℤ} {a : ℕ} (in-a : PlaceInRange num den a) where
-  num-read : kept (int num a) ≡ int num a
-  num-read = kept-as refl (omega (arith, in-a .num-most))
+  place-above : IsFraction (fractionAt num den a)
+  place-above = parts-lt (omega (arith, le-parts (in-a .den-least)))
 
-  den-read : kept (int den a) ≡ int den a
-  den-read = kept-as refl (omega (arith, in-a .den-most))
-
-  den-above : pos 0 <ℤ int den a
-  den-above = parts-lt (omega (arith, le-parts (in-a .den-least)))
-
-module _ {num den : List ℤ} {a b : ℕ} (in-a : PlaceInRange num den a) (in-b : PlaceInRange num den b) where
-  cross-most : natAbs (int num a *ℤ int den b) ≤ 266112000000 * 172800
-  cross-most = product-most (int num a) (int den b) (in-a .num-most) (in-b .den-most)
-
-  pub cross-fits : SFits w64 (kept (int num a) *ℤ kept (int den b))
-  cross-fits = fits-as (ap₂ _*ℤ_ (num-read in-a) (den-read in-b)) (omega (arith, cross-most))
-
-  pub cross-read : {r : ℤ} → r ≡ kept (int num a) *ℤ kept (int den b) → kept r ≡ int num a *ℤ int den b
-  cross-read e = kept-as (e ∙ ap₂ _*ℤ_ (num-read in-a) (den-read in-b)) (omega (arith, cross-most))
-
-  both-most : natAbs (int den a *ℤ int den b) ≤ 172800 * 172800
-  both-most = product-most (int den a) (int den b) (in-a .den-most) (in-b .den-most)
-
-  pub both-fits : SFits w64 (kept (int den a) *ℤ kept (int den b))
-  both-fits = fits-as (ap₂ _*ℤ_ (den-read in-a) (den-read in-b)) (omega (arith, both-most))
-
-  pub both-read : {r : ℤ} → r ≡ kept (int den a) *ℤ kept (int den b) → kept r ≡ int den a *ℤ int den b
-  both-read e = kept-as (e ∙ ap₂ _*ℤ_ (den-read in-a) (den-read in-b)) (omega (arith, both-most))
-
-  pub both-above : {r : ℤ} → r ≡ kept (int den a) *ℤ kept (int den b) → pos 0 <ℤ kept r
-  both-above e = subst (λ (z : ℤ). pos 0 <ℤ z) (sym (both-read e)) (*ℤ-above (den-above in-a) (den-above in-b))
+  pub measurable : {q : Fraction} → q ≡ fractionAt num den a → Measurable q
+  measurable is =
+      rw is
+      (record {
+        above = place-above;
+        den-most = parts-le (omega (arith, in-a .den-most, parts-natAbs (int den a)));
+        num-most = omega (arith, in-a .num-most);
+      })
 
 pub distance-read : (h : ℤ) → natAbs h ≤ 20000 → kept h ≡ h
 distance-read h most = kept-as refl (omega arith)
 
 module _ {num den : List ℤ} {a b : ℕ} (in-a : PlaceInRange num den a) (in-b : PlaceInRange num den b) (h : ℤ) (most : natAbs h ≤ 20000) where
-  span-most : natAbs (h *ℤ (int den a *ℤ int den b)) ≤ 20000 * (172800 * 172800)
-  span-most = product-most h (int den a *ℤ int den b) most (both-most in-a in-b)
+  abbrev apart : Fraction
+  apart = difference (fractionAt num den a) (fractionAt num den b) h
 
-  pub span-fits : {q : ℤ} → q ≡ int den a *ℤ int den b → SFits w64 (kept h *ℤ q)
-  span-fits e = fits-as (ap₂ _*ℤ_ (distance-read h most) e) (omega (arith, span-most))
+  crossed-most : natAbs ((fractionAt num den b ⊖ fractionAt num den a) .num) ≤ 266112000000 * 172800 + 266112000000 * 172800
+  crossed-most =
+      less-most (int num b *ℤ int den a) (int num a *ℤ int den b)
+      (product-most (int num b) (int den a) (in-b .num-most) (in-a .den-most))
+      (product-most (int num a) (int den b) (in-a .num-most) (in-b .den-most))
 
-  pub span-read : {q r : ℤ} → q ≡ int den a *ℤ int den b → r ≡ kept h *ℤ q → kept r ≡ h *ℤ (int den a *ℤ int den b)
-  span-read e f = kept-as (f ∙ ap₂ _*ℤ_ (distance-read h most) e) (omega (arith, span-most))
+  span-most : natAbs (h *ℤ (int den b *ℤ int den a)) ≤ 20000 * (172800 * 172800)
+  span-most = product-most h (int den b *ℤ int den a) most (product-most (int den b) (int den a) (in-b .den-most) (in-a .den-most))
 
-  reach-most : natAbs (reachOf num den a b h) ≤ 266112000000 * 172800 + 20000 * (172800 * 172800)
-  reach-most = omega (arith, natAbs-+ (int num a *ℤ int den b) (h *ℤ (int den a *ℤ int den b)), cross-most in-a in-b, span-most)
+  pub apart-above : IsFraction apart
+  apart-above = difference-above (fractionAt num den a) (fractionAt num den b) h (place-above in-a) (place-above in-b)
 
-  lack-most : natAbs (lackOf num den a b h) < 2 ^ 63
-  lack-most =
-      omega (
-        arith,
-        natAbs-+ (reachOf num den a b h) (negℤ (standsAt num den a b)),
-        natAbs-neg (standsAt num den a b),
-        reach-most,
-        cross-most in-b in-a,
-      )
+  slack-most : natAbs (apart .num) < 2 ^ 63
+  slack-most =
+      let x : ℤ = (fractionAt num den b ⊖ fractionAt num den a) .num in
+      omega (arith, less-most (x *ℤ pos 1) (h *ℤ (int den b *ℤ int den a)) (product-most x (pos 1) {n = 1} crossed-most (omega arith)) span-most)
 
-  -- from a start, a span and a standing place
-  module _ {p q s : ℤ} (ep : p ≡ int num a *ℤ int den b) (eq : q ≡ h *ℤ (int den a *ℤ int den b)) (es : s ≡ standsAt num den a b) where
-    lack-parts : (p +ℤ q) -ℤ s ≡ lackOf num den a b h
-    lack-parts = ap₂ _-ℤ_ (ap₂ _+ℤ_ ep eq) es
+  both-most : natAbs (apart .den) < 2 ^ 63
+  both-most =
+      let x : ℤ = int den b *ℤ int den a in
+      omega (arith, product-most x (pos 1) {n = 1} (product-most (int den b) (int den a) (in-b .den-most) (in-a .den-most)) (omega arith))
 
-    pub lack-fits : SFits w64 (p +ℤ q) × SFits w64 ((p +ℤ q) -ℤ s)
-    lack-fits = (fits-as (ap₂ _+ℤ_ ep eq) (omega (arith, reach-most)), fits-as lack-parts lack-most)
+  -- a slack between the two places, over the distance as it is read back
+  module _ {l r q : Fraction} (from : l ≡ fractionAt num den a) (to : r ≡ fractionAt num den b) (is : q ≡ difference l r (kept h)) where
+    measured : q ≡ apart
+    measured = is ∙ (λ i. difference (from i) (to i) (distance-read h most i))
 
-    pub lack-read : {r : ℤ} → r ≡ (p +ℤ q) -ℤ s → kept r ≡ lackOf num den a b h
-    lack-read e = kept-as (e ∙ lack-parts) lack-most
+    pub slack-read : kept (q .num) ≡ apart .num
+    slack-read = kept-as (ap (λ (x : Fraction). x .num) measured) slack-most
 
-  -- from the distance as it is read back
-  pub lack-known : {r : ℤ} → r ≡ lackOf num den a b (kept h) → kept r ≡ lackOf num den a b h
-  lack-known e = kept-as (e ∙ ap (λ (v : ℤ). lackOf num den a b v) (distance-read h most)) lack-most
+    pub turned-fits : SFits w64 (pos 0 -ℤ kept (q .num))
+    turned-fits = fits-as (ap (λ (z : ℤ). pos 0 -ℤ z) slack-read) (omega (arith, natAbs-negated (apart .num), slack-most))
 
-  pub negated-fits : {r : ℤ} → r ≡ lackOf num den a b h → SFits w64 (pos 0 -ℤ r)
-  negated-fits e = fits-as (ap (λ (z : ℤ). pos 0 -ℤ z) e) (omega (arith, natAbs-negated (lackOf num den a b h), lack-most))
-
--- ---- what a lack says
-
-less-above : {x y : ℤ} → pos 0 <ℤ (x -ℤ y) → y <ℤ x
-less-above {x} {y} h = parts-lt (omega (arith, lt-parts h, parts-+ x (negℤ y), pp-neg y, nn-neg y))
-
-less-to-zero : {x y : ℤ} → (x -ℤ y) ≤ℤ pos 0 → x ≤ℤ y
-less-to-zero {x} {y} h = parts-le (omega (arith, le-parts h, parts-+ x (negℤ y), pp-neg y, nn-neg y))
-
-less-from-zero : {x y : ℤ} → pos 0 ≤ℤ (x -ℤ y) → y ≤ℤ x
-less-from-zero {x} {y} h = parts-le (omega (arith, le-parts h, parts-+ x (negℤ y), pp-neg y, nn-neg y))
-
--- seen from the other end
-lack-backwards : (m d n e h : ℤ) → (n *ℤ d +ℤ (pos 0 -ℤ h) *ℤ (e *ℤ d)) -ℤ m *ℤ e ≡ pos 0 -ℤ ((m *ℤ e +ℤ h *ℤ (d *ℤ e)) -ℤ n *ℤ d)
-lack-backwards m d n e h = ring (m ∷ d ∷ n ∷ e ∷ h ∷ []) (search quotes depth 12) (search quotes depth 12) refl
-
-negated-above : {x : ℤ} → x <ℤ pos 0 → pos 0 <ℤ (pos 0 -ℤ x)
-negated-above {x} h = parts-lt (omega (arith, lt-parts h, parts-+ (pos 0) (negℤ x), pp-neg x, nn-neg x))
+    pub den-above : pos 0 <ℤ kept (q .den)
+    den-above = rw (kept-as (ap (λ (x : Fraction). x .den) measured) both-most) apart-above
 
 -- ---- kinds
 
@@ -140,16 +147,12 @@ not-ignored zero h e = let z : _≡_ {A = ℕ} 0 1 = cc in omega arith
 not-ignored (suc zero) h e = let z : _≡_ {A = ℕ} 0 1 = cc in omega arith
 not-ignored (suc (suc n)) h e = omega arith
 
-ignored-holds : (n : ℕ) (x y : ℤ) → 1 < n → HoldsBy (kindOf n) x y
-ignored-holds zero x y h = absurd (omega arith)
-ignored-holds (suc zero) x y h = absurd (omega arith)
-ignored-holds (suc (suc n)) x y h = tt
+ignored-holds : (n : ℕ) (q : Fraction) → 1 < n → HoldsWith (kindOf n) q
+ignored-holds zero q h = absurd (omega arith)
+ignored-holds (suc zero) q h = absurd (omega arith)
+ignored-holds (suc (suc n)) q h = tt
 
 -- ---- the search
-
--- what gap k lacks
-abbrev pub lackAt : (left right : List ℕ) (distance num den : List ℤ) → ℕ → ℤ
-lackAt left right distance num den k = lackOf num den (nat left k) (nat right k) (int distance k)
 
 module _ (left right : List ℕ) (distance : List ℤ) (kind : List ℕ) (num den : List ℤ) where
   -- a gap that holds leaves what was found before it
@@ -163,35 +166,29 @@ module _ (left right : List ℕ) (distance : List ℤ) (kind : List ℕ) (num de
   after-lacking e back Nothing before lacks r (inr w) = absurd (w .1 refl)
   after-lacking e back (Gap f b) before lacks r (inr w) = rw (w .0) (omega (arith, before .0), before .1)
 
-  -- one more gap, by the tests of its kind and of its lack z
+  -- one more gap, by the tests of its kind and of its slack, whose numerator is read as z
   module _ (e : GapNumber) (lead : Worst) (before : WorstOf left right distance kind num den (e .0) lead) where
     pub ignored-next : 1 < nat kind (e .0) → WorstOf left right distance kind num den (e .0 + 1) lead
-    ignored-next h = after-held (e .0) lead before (ignored-holds (nat kind (e .0)) _ _ h)
+    ignored-next h = after-held (e .0) lead before (ignored-holds (nat kind (e .0)) _ h)
 
-    module _ {z : ℤ} (is : z ≡ lackAt left right distance num den (e .0)) where
-      pub at-least-next : nat kind (e .0) ≡ 0 → ltZ (pos 0) z ≡ false → WorstOf left right distance kind num den (e .0 + 1) lead
-      at-least-next at t = after-held (e .0) lead before (rw at (less-to-zero (subst (λ (v : ℤ). v ≤ℤ pos 0) is (le-of-test t))))
+    module _ {z : ℤ} (over : IsFraction (apartAt left right distance num den (e .0))) (is : z ≡ apartAt left right distance num den (e .0) .num) where
+      abbrev apart-e : Fraction
+      apart-e = apartAt left right distance num den (e .0)
 
-      pub exactly-next : nat kind (e .0) ≤ 1 → (nat kind (e .0) ≡ 0 → ⊥) → ltZ (pos 0) z ≡ false → ltZ z (pos 0) ≡ false → WorstOf left right distance kind num den (e .0 + 1) lead
+      pub at-least-next : nat kind (e .0) ≡ 0 → ltZ z (pos 0) ≡ false → WorstOf left right distance kind num den (e .0 + 1) lead
+      at-least-next at t = after-held (e .0) lead before (rw at (sign-least apart-e over (subst (λ (v : ℤ). pos 0 ≤ℤ v) is (le-of-test t))))
+
+      pub exactly-next : nat kind (e .0) ≤ 1 → (nat kind (e .0) ≡ 0 → ⊥) → ltZ z (pos 0) ≡ false → ltZ (pos 0) z ≡ false → WorstOf left right distance kind num den (e .0 + 1) lead
       exactly-next h ne t s =
           after-held (e .0) lead before
           (rw (kind-exactly (nat kind (e .0)) h ne)
-          (le-antisym
-          (less-to-zero (subst (λ (v : ℤ). v ≤ℤ pos 0) is (le-of-test t)))
-          (less-from-zero (subst (λ (v : ℤ). pos 0 ≤ℤ v) is (le-of-test s)))))
+          (sign-none apart-e over (le-antisym (subst (λ (v : ℤ). v ≤ℤ pos 0) is (le-of-test s)) (subst (λ (v : ℤ). pos 0 ≤ℤ v) is (le-of-test t)))))
 
-      pub forwards-next : nat kind (e .0) ≤ 1 → ltZ (pos 0) z ≡ true → (r : Worst) → (r ≡ Gap e false) ⊎ ((r ≡ lead) × (lead ≢ Nothing)) → WorstOf left right distance kind num den (e .0 + 1) r
-      forwards-next h t = after-lacking e false lead before (not-ignored (nat kind (e .0)) h, less-above (subst (λ (v : ℤ). pos 0 <ℤ v) is (lt-of-test t)))
+      pub forwards-next : nat kind (e .0) ≤ 1 → ltZ z (pos 0) ≡ true → (r : Worst) → (r ≡ Gap e false) ⊎ ((r ≡ lead) × (lead ≢ Nothing)) → WorstOf left right distance kind num den (e .0 + 1) r
+      forwards-next h t = after-lacking e false lead before (not-ignored (nat kind (e .0)) h, sign-below apart-e over (subst (λ (v : ℤ). v <ℤ pos 0) is (lt-of-test t)))
 
-      pub backwards-next : nat kind (e .0) ≤ 1 → (nat kind (e .0) ≡ 0 → ⊥) → ltZ z (pos 0) ≡ true → (r : Worst) → (r ≡ Gap e true) ⊎ ((r ≡ lead) × (lead ≢ Nothing)) → WorstOf left right distance kind num den (e .0 + 1) r
-      backwards-next h ne t =
-          after-lacking e true lead before (
-            kind-exactly (nat kind (e .0)) h ne,
-            less-above
-                (subst (λ (v : ℤ). pos 0 <ℤ v)
-                (ap (λ (v : ℤ). pos 0 -ℤ v) is ∙ sym (lack-backwards (int num (nat left (e .0))) (int den (nat left (e .0))) (int num (nat right (e .0))) (int den (nat right (e .0))) (int distance (e .0))))
-                (negated-above {x = z} (lt-of-test t))),
-          )
+      pub backwards-next : nat kind (e .0) ≤ 1 → (nat kind (e .0) ≡ 0 → ⊥) → ltZ (pos 0) z ≡ true → (r : Worst) → (r ≡ Gap e true) ⊎ ((r ≡ lead) × (lead ≢ Nothing)) → WorstOf left right distance kind num den (e .0 + 1) r
+      backwards-next h ne t = after-lacking e true lead before (kind-exactly (nat kind (e .0)) h ne, sign-above apart-e over (subst (λ (v : ℤ). pos 0 <ℤ v) is (lt-of-test t)))
 
 -- the gaps up to k, of those in range
 pub comparable-first : {gaps : ℕ} {left right : List ℕ} {distance num den : List ℤ} {k : ℕ} → k < gaps → Comparable gaps left right distance num den → Comparable (k + 1) left right distance num den

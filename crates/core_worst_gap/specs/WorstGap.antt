@@ -1,13 +1,17 @@
--- Which gaps hold at places num / den, by cross multiplication.
+-- Which gaps hold at places num / den: the sign of the slack tells it.
 use Prim.Native.Nat.{ℕ, _≤_, _<_}
 use mathlib.Core.Path.{_≡_}
 use mathlib.Core.Logic.{_≢_}
 use mathlib.Core.Bool.{Bool, true, false, cond}
 use mathlib.Core.List.{List}
 use lib.Dec.{eqb}
-use lib.IntN.{ℤ, pos, natAbs, _+ℤ_, _-ℤ_, _*ℤ_}
+use lib.IntN.{ℤ, pos, natAbs}
 use lib.Signed.{_≤ℤ_, _<ℤ_}
-use Rattle.least_move.specs.Sheet.{Kind, at-least, exactly, ignored}
+use Rattle.exact.specs.declared.Fraction.{Fraction}
+use Rattle.exact.specs.Fraction.{fractionAt}
+use Rattle.exact.specs.Slack.{slackBetween}
+use Rattle.least_move.specs.Sheet.{exactly, ignored}
+use Rattle.least_move.specs.Placement.{HoldsWith}
 use Rattle.ground.specs.Entries.{nat, int}
 use Rattle.core_forest.specs.Problem.{kindOf}
 use Rattle.core_worst_gap.specs.declared.Lead.{Lead}
@@ -15,35 +19,21 @@ use Rattle.core_worst_gap.specs.declared.Worst.{Worst}
 use Rattle.core_worst_gap.specs.declared.Worst.the-variants.{Nothing, Gap}
 use Rattle.ground.specs.Limits.{blockWeightMost, distanceMost, gapsMost, labelsMost, momentMost}
 
--- place(a) + h, over the product of the denominators
-abbrev pub reachOf : List ℤ → List ℤ → ℕ → ℕ → ℤ → ℤ
-reachOf num den a b h = int num a *ℤ int den b +ℤ h *ℤ (int den a *ℤ int den b)
-
--- place(b), over that product
-abbrev pub standsAt : List ℤ → List ℤ → ℕ → ℕ → ℤ
-standsAt num den a b = int num b *ℤ int den a
-
--- what stands holds a gap of a kind that asks for this reach
-abbrev pub HoldsBy : Kind → ℤ → ℤ → Type 0
-HoldsBy at-least reach stands = reach ≤ℤ stands
-HoldsBy exactly reach stands = reach ≡ stands
-HoldsBy ignored reach stands = Unit {0}
+-- the slack of gap e
+abbrev pub slackAt : (left right : List ℕ) (distance num den : List ℤ) → ℕ → Fraction
+slackAt left right distance num den e =
+    slackBetween (fractionAt num den (nat left e)) (fractionAt num den (nat right e)) (int distance e)
 
 -- gap e holds
 abbrev pub GapHolds : (left right : List ℕ) (distance : List ℤ) (kind : List ℕ) (num den : List ℤ) → ℕ → Type 0
-GapHolds left right distance kind num den e =
-    HoldsBy (kindOf (nat kind e))
-    (reachOf num den (nat left e) (nat right e) (int distance e))
-    (standsAt num den (nat left e) (nat right e))
+GapHolds left right distance kind num den e = HoldsWith (kindOf (nat kind e)) (slackAt left right distance num den e)
 
 -- gap e does not hold; pushed backwards, an exact gap's right end stands too far right
 abbrev pub Lacks : (left right : List ℕ) (distance : List ℤ) (kind : List ℕ) (num den : List ℤ) → ℕ → Bool → Type 0
 Lacks left right distance kind num den e false =
-    (kindOf (nat kind e) ≢ ignored)
-    × (standsAt num den (nat left e) (nat right e) <ℤ reachOf num den (nat left e) (nat right e) (int distance e))
+    (kindOf (nat kind e) ≢ ignored) × (slackAt left right distance num den e .num <ℤ pos 0)
 Lacks left right distance kind num den e true =
-    (kindOf (nat kind e) ≡ exactly)
-    × (standsAt num den (nat right e) (nat left e) <ℤ reachOf num den (nat right e) (nat left e) (pos 0 -ℤ int distance e))
+    (kindOf (nat kind e) ≡ exactly) × (pos 0 <ℤ slackAt left right distance num den e .num)
 
 -- what the search for a gap that does not hold says of the first k gaps
 abbrev pub WorstOf : (left right : List ℕ) (distance : List ℤ) (kind : List ℕ) (num den : List ℤ) → ℕ → Worst → Type 0
@@ -54,7 +44,7 @@ WorstOf left right distance kind num den k (Gap e back) = (e .0 < k) × Lacks le
 abbrev pub leadOf : Lead → Worst
 leadOf l = cond (eqb (l .tag) 0) Nothing (Gap (l .gap) (eqb (l .tag) 2))
 
--- a place that can be compared
+-- a place within the core's limits
 pub record PlaceInRange (num den : List ℤ) (i : ℕ) : Type 0 where
   pub label-in : i < labelsMost
   pub den-least : pos 1 ≤ℤ int den i

@@ -1,4 +1,6 @@
-// The search for a gap that does not hold.
+// The search for a gap that does not hold. Whether one does is told by the sign of its slack.
+use exact::Fraction;
+use exact::slack::between;
 use ground::GapNumber;
 use ground::Label;
 use ground::limits::GapBytes;
@@ -8,15 +10,14 @@ use ground::limits::LabelInts;
 use ground::signs::turned;
 ghost use mathlib.Core.Path.{_≡_};
 ghost use mathlib.Core.Logic.{_⊎_, _≢_};
-ghost use Prim.Native.Nat.{_+_, _≤_};
+ghost use Prim.Native.Nat.{_+_, _<_};
 ghost use lib.Dec.{eqb};
-ghost use lib.IntN.{pos, natAbs, _+ℤ_, _-ℤ_, _*ℤ_};
+ghost use lib.IntN.{pos};
 ghost use lib.Signed.{_<ℤ_, quotZ};
-ghost use mir.Syntax.{w64};
-ghost use mir.Val.{SFits};
+ghost use Rattle.exact.specs.Fraction.{fractionAt};
 ghost use Rattle.core_worst_gap.specs.declared.Worst.the-variants.{Nothing, Gap};
-ghost use Rattle.core_worst_gap.specs.WorstGap.{Comparable, PlaceInRange, WorstOf, leadOf, reachOf, standsAt};
-ghost use Rattle.ground.specs.Limits.{distanceMost};
+ghost use Rattle.core_worst_gap.specs.WorstGap.{Comparable, WorstOf, leadOf};
+ghost use Rattle.ground.specs.Limits.{labelsMost};
 ghost use Rattle.ground.specs.Views.{before};
 
 // A gap that does not hold, and whether it is pushed backwards; or none, where every gap holds.
@@ -58,23 +59,6 @@ fn better(lead: Lead, e: GapNumber, tag: usize, whole: i64) -> Lead
     Lead { tag, gap: e, whole }
 }
 
-// A product that fits.
-fn times(a: i64, b: i64) -> i64
-    requires { ⌜ SFits w64 (a *ℤ b) ⌝ }
-    ensures { λ r. ⌜ r ≡ a *ℤ b ⌝ }
-{
-    a * b
-}
-
-// How far a span from the start reaches past what stands.
-fn short_of(start: i64, span: i64, stands: i64) -> i64
-    requires { ⌜ SFits w64 (start +ℤ span) ⌝ }
-    requires { ⌜ SFits w64 ((start +ℤ span) -ℤ stands) ⌝ }
-    ensures { λ r. ⌜ r ≡ (start +ℤ span) -ℤ stands ⌝ }
-{
-    start + span - stands
-}
-
 // The whole units of a fraction.
 fn whole_part(num: i64, den: i64) -> i64
     requires { ⌜ pos 0 <ℤ den ⌝ }
@@ -83,22 +67,16 @@ fn whole_part(num: i64, den: i64) -> i64
     num / den
 }
 
-// How much place b lacks to stand h to the right of place a, over the product of the denominators.
-fn lack_of(a: Label, b: Label, h: i64, num: &LabelInts, den: &LabelInts) -> i64
-    requires { ⌜ PlaceInRange (now num) (now den) (a .0) ⌝ }
-    requires { ⌜ PlaceInRange (now num) (now den) (b .0) ⌝ }
-    requires { ⌜ natAbs h ≤ distanceMost ⌝ }
-    ensures { λ r.
-        let reach = reachOf (before num) (before den) (a .0) (b .0) h in
-        let stands = standsAt (before num) (before den) (a .0) (b .0) in
-        ⌜ r ≡ reach -ℤ stands ⌝ }
+// The place of a label.
+fn place_at(i: Label, num: &LabelInts, den: &LabelInts) -> Fraction
+    requires { ⌜ i .0 < labelsMost ⌝ }
+    ensures { λ r. ⌜ r ≡ fractionAt (before num) (before den) (i .0) ⌝ }
 {
-    let i = a.0;
-    let j = b.0;
-    let start = times(num[i], den[j]);
-    let span = times(h, times(den[i], den[j]));
-    let stands = times(num[j], den[i]);
-    short_of(start, span, stands)
+    let k = i.0;
+    Fraction {
+        num: num[k],
+        den: den[k],
+    }
 }
 
 // Takes gap e into account.
@@ -125,16 +103,16 @@ fn consider(
     }
     let u = left[k];
     let v = right[k];
-    let both = times(den[u], den[v]);
-    let lack = lack_of(Label(u), Label(v), distance[k], num, den);
-    if 0 < lack {
-        return better(lead, e, 1, whole_part(lack, both));
+    let from = place_at(Label(u), num, den);
+    let slack = between(from, place_at(Label(v), num, den), distance[k]);
+    if slack.num < 0 {
+        return better(lead, e, 1, whole_part(turned(slack.num), slack.den));
     }
     if what == 0 {
         return lead;
     }
-    if lack < 0 {
-        return better(lead, e, 2, whole_part(turned(lack), both));
+    if 0 < slack.num {
+        return better(lead, e, 2, whole_part(slack.num, slack.den));
     }
     lead
 }

@@ -3,16 +3,20 @@
 use Prim.Native.Nat.{ℕ}
 use mathlib.Core.Path.{_≡_, ap}
 use mathlib.Core.Logic.{_≢_}
-use mathlib.Core.List.{[]}
+use mathlib.Core.List.{List, [], _∷_}
 use native.Mathlib.Omega.{arith}
 use lib.ListN.{replicate}
-use lib.IntN.{pos, natAbs}
-use Rattle.exact.specs.Round.{rounded, roundTiesToAway, withinPlaces, wholeOf}
+use lib.IntN.{ℤ, pos, negsuc, natAbs}
+use Rattle.exact.specs.declared.SlackAnswer.{SlackAnswer}
+use Rattle.exact.specs.Places.{withinPlaces}
+use Rattle.exact.specs.Round.{rounded, roundTiesToAway, wholeOf}
+use Rattle.exact.specs.Slack.{euclid, lowestOf, slackAnswer}
 use Rattle.ground.specs.declared.Answer.the-variants.{Placed}
 use Rattle.ground.specs.Answers.{numberOf, refusedPlace, refusal}
 use Rattle.text_reading.specs.declared.Reading.the-variants.{Sheet}
-use Rattle.text_listing.specs.Listing.{listedIn}
+use Rattle.text_listing.specs.Listing.{Listable, listedIn}
 use Rattle.text_listing.specs.Listing as writing
+use Rattle.dirmoog_c.specs.Exported.{SlackTold}
 use Rattle.dirmoog_c.specs.Texted.{readFirst, readSecond}
 
 -- the place of a refusal for its number: 6 at label 1
@@ -28,9 +32,59 @@ pub fraction-upside-down : wholeOf (rounded (pos 1) (pos 3)) ≢ wholeOf (rounde
 unfolding rounded roundTiesToAway withinPlaces
 fraction-upside-down same = let magnitudes : _≡_ {A = ℕ} 0 3 = ap natAbs same in omega arith
 
+-- so many numerators, denominators, left and right labels, and no distance
+abbrev sized : (nums dens left right : ℕ) → Listable
+sized nums dens left right = record {
+  place-num = replicate nums (pos 1);
+  place-den = replicate dens (pos 1);
+  left = replicate left 0;
+  right = replicate right 0;
+  distance = [];
+}
+
 -- denominators listed as numerators: 49 numerators are 1, and 48 beside 49 denominators are 3
 pub places-upside-down :
-    writing.numberOf (listedIn Placed (replicate 49 (pos 1)) (replicate 48 (pos 1)) [] .answer)
-    ≢ writing.numberOf (listedIn Placed (replicate 48 (pos 1)) (replicate 49 (pos 1)) [] .answer)
+    writing.numberOf (listedIn Placed (sized 49 48 0 0) [] .answer)
+    ≢ writing.numberOf (listedIn Placed (sized 48 49 0 0) [] .answer)
 unfolding listedIn
 places-upside-down same = let numbers : _≡_ {A = ℕ} 1 3 = same in omega arith
+
+-- right labels listed as left ones: 193 left labels are 2, and 192 beside 193 right ones are 3
+pub gaps-turned :
+    writing.numberOf (listedIn Placed (sized 0 0 193 192) [] .answer)
+    ≢ writing.numberOf (listedIn Placed (sized 0 0 192 193) [] .answer)
+unfolding listedIn
+gaps-turned same = let numbers : _≡_ {A = ℕ} 2 3 = same in omega arith
+
+-- ---- the slack, of two entries that hold anything
+
+-- of 1/2, 1/3 and 0: the gap is broken by 1/6
+abbrev broken : SlackAnswer
+broken = slackAnswer (record { num = pos 1; den = pos 2 }) (record { num = pos 1; den = pos 3 }) (pos 0)
+
+-- a denominator of 0, and a distance of 20,001
+abbrev no-fraction : SlackAnswer
+no-fraction = slackAnswer (record { num = pos 1; den = pos 0 }) (record { num = pos 1; den = pos 3 }) (pos 0)
+
+abbrev too-far : SlackAnswer
+too-far = slackAnswer (record { num = pos 1; den = pos 2 }) (record { num = pos 1; den = pos 3 }) (pos 20001)
+
+module _ {x y : ℤ} {n : ℕ} {after : List ℤ} where
+  -- C is told -1 and 6, and not 1 and 6, nor 6 and -1
+  pub slack-told : SlackTold broken (x ∷ y ∷ []) n after → (n ≡ 0) × (after ≡ negsuc 0 ∷ pos 6 ∷ [])
+  unfolding slackAnswer withinPlaces lowestOf euclid
+  slack-told t = (t .returned, t .out-told)
+
+  -- of a refusal 0 and 1, and not 0 and 0
+  pub twelve-told : SlackTold no-fraction (x ∷ y ∷ []) n after → (n ≡ 12) × (after ≡ pos 0 ∷ pos 1 ∷ [])
+  unfolding slackAnswer withinPlaces
+  twelve-told t = (t .returned, t .out-told)
+
+  pub eight-told : SlackTold too-far (x ∷ y ∷ []) n after → (n ≡ 8) × (after ≡ pos 0 ∷ pos 1 ∷ [])
+  unfolding slackAnswer withinPlaces
+  eight-told t = (t .returned, t .out-told)
+
+-- where one entry is lent it is the numerator
+pub numerator-told : {x : ℤ} {n : ℕ} {after : List ℤ} → SlackTold broken (x ∷ []) n after → after ≡ negsuc 0 ∷ []
+unfolding slackAnswer withinPlaces lowestOf euclid
+numerator-told t = t .out-told

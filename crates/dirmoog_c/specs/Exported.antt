@@ -3,6 +3,10 @@ use Prim.Native.Nat.{ℕ}
 use mathlib.Core.Path.{_≡_}
 use mathlib.Core.List.{List}
 use lib.ListN.{set}
+use lib.IntN.{ℤ}
+use Rattle.exact.specs.declared.SlackAnswer.{SlackAnswer}
+use Rattle.exact.specs.Slack.{slackGiven}
+use Rattle.exact.specs.Slack as slacks
 use Rattle.ground.specs.declared.Answer.{Answer}
 use Rattle.sheet_checks.specs.Lent.{Read, Written}
 use Rattle.layout.specs.Promise.{Promise}
@@ -19,3 +23,9 @@ pub record Laid (r : Read) (w : Written) (out : List ℕ) (number : ℕ) (after 
   pub kept : Promise r w answer after
   pub returned : number ≡ numberOf answer
   pub out-told : out-after ≡ told (refusedPlace answer) (ringLengthOf answer) out
+
+-- the number of a slack's answer returned, its slack told as numerator and denominator; its place is 0 and is not told
+pub record SlackTold (answer : SlackAnswer) (out : List ℤ) (number : ℕ) (out-after : List ℤ) : Type 0 where
+  pub returned : number ≡ slacks.numberOf answer
+  pub out-told : out-after ≡ set (set out 0 (slackGiven answer .num)) 1 (slackGiven answer .den)
+  pub no-place : slacks.refusedPlace answer ≡ 0

@@ -4,6 +4,7 @@ use mathlib.Core.Path.{_≡_}
 use mathlib.Core.Bool.{cond}
 use mathlib.Core.List.{List}
 use lib.Dec.{eqb}
+use lib.ListN.{set}
 use Rattle.ground.specs.declared.Answer.{Answer}
 use Rattle.ground.specs.declared.Answer.the-variants.{Placed}
 use Rattle.ground.specs.Answers.{refusal}
@@ -11,6 +12,7 @@ use Rattle.text_reading.specs.declared.Reading.{Reading}
 use Rattle.text_reading.specs.declared.Reading.the-variants as read
 use Rattle.text_reading.specs.Readings.{numberOf, refusedPlace, labelsOf, gapsOf}
 use Rattle.text_reading.specs.Texts.{Lists, reading}
+use Rattle.text_listing.specs.Listing as writing
 use Rattle.dirmoog_c.specs.Exported.{told}
 
 -- what C is told of a reading: the counts of labels and gaps, or the place and 0
@@ -30,3 +32,10 @@ pub record ReadTold (text : List ℕ) (before : Lists) (out : List ℕ) (number 
 -- the answer that a number and a place tell: 0 is placed
 abbrev pub answerOf : ℕ → ℕ → Answer
 answerOf number place = cond (eqb number 0) Placed (refusal number place 0)
+
+-- what the writer leaves in the buffer, with its number and the count of bytes told; a refusal's place is 0 and is not told
+pub record ListingTold (listed : writing.Listing) (out : List ℕ) (number : ℕ) (text-after out-after : List ℕ) : Type 0 where
+  pub written : text-after ≡ listed .buffer
+  pub returned : number ≡ writing.numberOf (listed .answer)
+  pub out-told : out-after ≡ set out 0 (writing.bytesOf (listed .answer))
+  pub no-place : writing.refusedPlace (listed .answer) ≡ 0

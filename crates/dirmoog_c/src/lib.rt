@@ -1,14 +1,17 @@
 // The library for C and Rust: thin functions over the proved entries, on numbers and slices only.
 // Anything may be lent.
+use exact::Fraction;
 use exact::round::round;
+use exact::slack::slack;
 use ground::Answer;
 use layout::lists::lay_out;
 ghost use mathlib.Core.Path.{_≡_};
 ghost use lib.ListN.{set};
 ghost use Rattle.exact.specs.Round as rounding;
+ghost use Rattle.exact.specs.Slack.{slackAnswer};
 ghost use Rattle.sheet_checks.specs.Lent.{roomLent, sheetLent};
 ghost use Rattle.ground.specs.Answers.{numberOf, refusedPlace, ringLengthOf};
-ghost use Rattle.dirmoog_c.specs.Exported.{Laid};
+ghost use Rattle.dirmoog_c.specs.Exported.{Laid, SlackTold};
 ghost use Rattle.ground.specs.Views.{after, before};
 
 pub mod text;
@@ -112,5 +115,36 @@ pub extern "C" fn dirmoog_round(num: i64, den: i64, out: &mut [i64]) -> usize
 {
     let answer = round(num, den);
     put_signed(out, 0, answer.whole());
+    answer.number()
+}
+
+// The slack of a gap between two places. Gives 0, 12 for a bad fraction or 8 for a bad distance;
+// out is told numerator and denominator, 0 and 1 for a refusal. No place is told: it is always 0.
+#[no_mangle]
+pub extern "C" fn dirmoog_slack(
+    left_num: i64,
+    left_den: i64,
+    right_num: i64,
+    right_den: i64,
+    distance: i64,
+    out: &mut [i64],
+) -> usize
+    ensures { λ r.
+        let left : Fraction = record { num = «left_num»; den = «left_den» } in
+        let right : Fraction = record { num = «right_num»; den = «right_den» } in
+        ⌜ SlackTold (slackAnswer left right distance) (before out) r (after out) ⌝ }
+{
+    let left = Fraction {
+        num: left_num,
+        den: left_den,
+    };
+    let right = Fraction {
+        num: right_num,
+        den: right_den,
+    };
+    let answer = slack(left, right, distance);
+    let given = answer.slack();
+    put_signed(out, 0, given.num);
+    put_signed(out, 1, given.den);
     answer.number()
 }

@@ -7,8 +7,7 @@ use text_listing::listing::write_listing;
 use text_reading::Reading;
 use text_reading::read::read_sheet;
 ghost use mathlib.Core.Path.{_≡_};
-ghost use lib.ListN.{set};
-ghost use Rattle.dirmoog_c.specs.Texted.{readFirst, readSecond, ReadTold, answerOf};
+ghost use Rattle.dirmoog_c.specs.Texted.{ListingTold, ReadTold, answerOf, readFirst, readSecond};
 ghost use Rattle.text_listing.specs.Listing as writing;
 ghost use Rattle.text_reading.specs.Readings as readings;
 ghost use Rattle.text_reading.specs.Texts.{listsLent};
@@ -110,23 +109,19 @@ pub extern "C" fn dirmoog_listing(
     place: usize,
     place_num: &[i64],
     place_den: &[i64],
+    left: &[usize],
+    right: &[usize],
+    distance: &[i64],
     text: &mut [u8],
     out: &mut [usize],
 ) -> usize
     ensures { λ r.
-        ⌜ r ≡ writing.numberOf (writing.listedIn (answerOf number place) (before «place_num») (before «place_den») (before text) .answer)
-        ⌝ }
-    ensures { λ _.
-        ⌜ after text ≡ writing.listedIn (answerOf number place) (before «place_num») (before «place_den») (before text) .buffer ⌝ }
-    ensures { λ _.
-        ⌜ after out ≡ set (before out) 0
-        (writing.bytesOf (writing.listedIn (answerOf number place) (before «place_num») (before «place_den») (before text) .answer)) ⌝ }
-    ensures { λ _.
-        ⌜ writing.refusedPlace (writing.listedIn (answerOf number place) (before «place_num») (before «place_den») (before text) .answer) ≡ 0
-        ⌝ }
+        let l = writing.listableLent «place_num» «place_den» left right distance in
+        let listed = writing.listedIn (answerOf number place) l (before text) in
+        ⌜ ListingTold listed (before out) r (after text) (after out) ⌝ }
 {
     let answer = answer_of(number, place);
-    let listed = write_listing(answer, place_num, place_den, text);
+    let listed = write_listing(answer, place_num, place_den, left, right, distance, text);
     put(out, 0, listed_bytes(listed));
     listed_number(listed)
 }

@@ -17,7 +17,7 @@ use Rattle.algebra.proofs.Quotient.{natAbs-*, natAbs-rem, pos-of-above, natAbs-
 -- ---- natural numbers
 
 -- Euclid's step keeps the greatest common divisor, and its end shows it
-gcd-step : {x y g : ℕ} → GreatestCommonDivisor y (x % y) g → GreatestCommonDivisor x y g
+pub gcd-step : {x y g : ℕ} → GreatestCommonDivisor y (x % y) g → GreatestCommonDivisor x y g
 gcd-step {x} {y} {g} c =
     record {
       left = dvd-mod-iff g (c .left) .0 (c .right);

@@ -1,6 +1,9 @@
 pub mod Fractions
 pub mod Divisor
+pub mod PlaceLimits
 pub mod Rounding
 pub mod Ordering
+pub mod Slacks
 pub mod Samples
 pub mod WrongRoundings
+pub mod WrongSlacks

@@ -2,25 +2,27 @@
 -- how the code finds it, and when refusal 12 is met.
 use mathlib.Core.Path.{_≡_, refl, sym, _∙_, ap, ap₂}
 use mathlib.Core.Logic.{_⊎_, inl, inr, ⊎-elim}
-use mathlib.Core.Bool.{Bool, true, false, cond, _&&_}
+use mathlib.Core.Bool.{Bool, true, false, cond}
 use mathlib.Core.List.{List, [], _∷_}
 use Prim.Native.Nat.{ℕ, suc, _+_, _*_, _-_, _/_, _%_, _≤_, _<_, _^_}
 use native.Mathlib.Omega.{arith}
 use native.Mathlib.Nat.{div-add-mod', mod-lt}
-use lib.Dec.{ltb, leb}
-use borrow.Author.Tests.{ltb-true, ltb-false, lt-ltb, le-ltb, leb-true, le-leb}
+use lib.Dec.{ltb}
+use borrow.Author.Tests.{ltb-true, ltb-false, lt-ltb, le-ltb}
 use lib.IntN.{ℤ, pos, negsuc, negℤ, natAbs, _+ℤ_, _-ℤ_, _*ℤ_, negℤ-+ℤ}
-use lib.Signed.{_≤ℤ_, _<ℤ_, leZ, ltZ, quotZ, remZ}
+use lib.Signed.{_≤ℤ_, _<ℤ_, ltZ, quotZ, remZ}
 use mir.Syntax.{w64}
 use mir.Val.{SFits}
 use Rattle.ground.specs.Limits.{placeDenMost, placeNumMost, fractionDenMost}
 use Rattle.exact.specs.declared.Fraction.{Fraction}
 use Rattle.exact.specs.declared.Rounded.the-variants.{Whole}
 use Rattle.exact.specs.Divide.{InRange}
-use Rattle.exact.specs.Round.{nearestMagnitude, roundTiesToAway, withinPlaces, refusal12, rounded}
-use Rattle.algebra.proofs.Whole.{pp, nn, parts-+, pp-neg, nn-neg, le-parts, parts-le, lt-parts, parts-lt, one-part, parts-natAbs, negℤ-*ℤ, le-antisym, le-of-lt, not-le-of-lt, le-or-lt, *ℤ-le}
+use Rattle.exact.specs.Places.{withinPlaces}
+use Rattle.exact.specs.Round.{nearestMagnitude, roundTiesToAway, refusal12, rounded}
+use Rattle.algebra.proofs.Whole.{pp, nn, parts-+, pp-neg, nn-neg, le-parts, parts-le, lt-parts, parts-lt, one-part, parts-natAbs, negℤ-*ℤ, le-antisym, le-of-lt, le-or-lt, *ℤ-le}
 use Rattle.algebra.proofs.Ring.{quotes, le-given, le-goal}
-use Rattle.algebra.proofs.Quotient.{natAbs-neg, natAbs-negated, natAbs-*, natAbs-+, above-natAbs, natAbs-rem, lt-of-test, le-of-test, leZ-of-test, test-of-leZ, next-le, kept, fits-as, kept-as}
+use Rattle.algebra.proofs.Quotient.{natAbs-neg, natAbs-negated, natAbs-*, natAbs-+, above-natAbs, natAbs-rem, lt-of-test, le-of-test, test-of-leZ, next-le, kept, fits-as, kept-as}
+use Rattle.exact.proofs.PlaceLimits.{places-test, places-passed}
 use Rattle.exact.proofs.Ordering.{den-kept, quot-small, quot-kept, rem-small, rem-kept}
 
 -- ---- the quotient, or the whole number next to it
@@ -243,49 +245,23 @@ module _ (q : Fraction) (ok : InRange q) where
 
 -- ---- refusal 12
 
-and-three : (t u v : Bool) → (t && u && v) ≡ true → (t ≡ true) × ((u ≡ true) × (v ≡ true))
-and-three true true true e = (refl, (refl, refl))
-and-three true true false e = let z : _≡_ {A = ℕ} 0 1 = cc in absurd (omega arith)
-and-three true false v e = let z : _≡_ {A = ℕ} 0 1 = cc in absurd (omega arith)
-and-three false u v e = let z : _≡_ {A = ℕ} 0 1 = cc in absurd (omega arith)
-
--- a numerator within its limit either way
-num-within : (num : ℤ) → negℤ (pos placeNumMost) ≤ℤ num → num ≤ℤ pos placeNumMost → natAbs num ≤ placeNumMost
-num-within (pos n) h k = omega (arith, le-parts k)
-num-within (negsuc n) h k = omega (arith, le-parts h)
-
 module _ (num den : ℤ) where
+  pub answers : withinPlaces num den ≡ true → Whole (roundTiesToAway num den) ≡ rounded num den
+  unfolding rounded
+  answers e = rw e refl
+
+  pub refuses : withinPlaces num den ≡ false → refusal12 ≡ rounded num den
+  unfolding rounded
+  refuses e = rw e refl
+
   pub within-places : pos 1 ≤ℤ den → den ≤ℤ pos placeDenMost → negℤ (pos placeNumMost) ≤ℤ num → num ≤ℤ pos placeNumMost → Whole (roundTiesToAway num den) ≡ rounded num den
-  unfolding rounded withinPlaces
-  within-places h k l m = rw (test-of-leZ h, test-of-leZ k, le-leb (natAbs num) placeNumMost (num-within num l m))
+  within-places h k l m = answers (sym (places-test num den h k l) ∙ test-of-leZ m)
 
-  pub in-range : pos 1 ≤ℤ den → den ≤ℤ pos placeDenMost → negℤ (pos placeNumMost) ≤ℤ num → num ≤ℤ pos placeNumMost → InRange (record { num = num; den = den })
-  in-range h k l m =
+  pub in-range : withinPlaces num den ≡ true → InRange (record { num = num; den = den })
+  in-range e =
+      let passed = places-passed num den e in
       record {
-        above = parts-lt (omega (arith, le-parts h));
-        den-most = parts-le (omega (arith, le-parts k));
-        num-most = omega (arith, num-within num l m);
+        above = parts-lt (omega (arith, le-parts (passed .0)));
+        den-most = parts-le (omega (arith, le-parts (passed .1 .0)));
+        num-most = omega (arith, passed .1 .1);
       }
-
-  refuses : (pos 1 ≤ℤ den → den ≤ℤ pos placeDenMost → natAbs num ≤ placeNumMost → ⊥) → refusal12 ≡ rounded num den
-  unfolding rounded withinPlaces
-  refuses out = go (withinPlaces num den) refl
-    where
-      parts : withinPlaces num den ≡ true → (leZ (pos 1) den ≡ true) × ((leZ den (pos placeDenMost) ≡ true) × (leb (natAbs num) placeNumMost ≡ true))
-      parts e = and-three (leZ (pos 1) den) (leZ den (pos placeDenMost)) (leb (natAbs num) placeNumMost) e
-
-      go : (t : Bool) → withinPlaces num den ≡ t → refusal12 ≡ cond t (Whole (roundTiesToAway num den)) refusal12
-      go false e = refl
-      go true e = absurd (out (leZ-of-test (parts e .0)) (leZ-of-test (parts e .1 .0)) (leb-true (natAbs num) placeNumMost (parts e .1 .1)))
-
-  pub refuses-den-low : den <ℤ pos 1 → refusal12 ≡ rounded num den
-  refuses-den-low h = refuses (λ a b n. not-le-of-lt h a)
-
-  pub refuses-den-high : pos placeDenMost <ℤ den → refusal12 ≡ rounded num den
-  refuses-den-high h = refuses (λ a b n. not-le-of-lt h b)
-
-  pub refuses-num-low : num <ℤ negℤ (pos placeNumMost) → refusal12 ≡ rounded num den
-  refuses-num-low h = refuses (λ a b (n : natAbs num ≤ placeNumMost). omega (arith, lt-parts h, parts-natAbs num))
-
-  pub refuses-num-high : pos placeNumMost <ℤ num → refusal12 ≡ rounded num den
-  refuses-num-high h = refuses (λ a b (n : natAbs num ≤ placeNumMost). omega (arith, lt-parts h, parts-natAbs num))

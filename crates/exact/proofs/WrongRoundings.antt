@@ -7,7 +7,8 @@ use native.Mathlib.Nat.{mod-eq-zero-of-dvd}
 use lib.IntN.{pos, negℤ}
 use Rattle.ground.specs.Limits.{placeDenMost, placeNumMost}
 use Rattle.exact.specs.Divide.{IsDivisor}
-use Rattle.exact.specs.Round.{withinPlaces, refusal12, rounded}
+use Rattle.exact.specs.Places.{withinPlaces}
+use Rattle.exact.specs.Round.{refusal12, rounded}
 
 -- a denominator of 0 is no denominator
 denominator-low : rounded (pos 1) (pos 0) ≡ refusal12

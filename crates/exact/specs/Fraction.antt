@@ -1,10 +1,16 @@
 -- Fractions (document 01, "Least move"): a whole number over a whole number above zero,
 -- compared and added over a common denominator.
 use mathlib.Core.Path.{_≡_}
+use mathlib.Core.List.{List}
 use Prim.Native.Nat.{ℕ, _∣_}
 use lib.IntN.{ℤ, pos, natAbs, _+ℤ_, _-ℤ_, _*ℤ_}
 use lib.Signed.{_≤ℤ_, _<ℤ_}
+use Rattle.ground.specs.Entries.{int}
 use Rattle.exact.specs.declared.Fraction.{Fraction}
+
+-- a numerator of one list over the denominator of another
+abbrev pub fractionAt : List ℤ → List ℤ → ℕ → Fraction
+fractionAt nums dens k = record { num = int nums k; den = int dens k }
 
 -- a whole number over a whole number above zero
 abbrev pub IsFraction : Fraction → Type 0

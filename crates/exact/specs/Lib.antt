@@ -1,4 +1,6 @@
 pub mod Fraction
 pub mod Divide
+pub mod Places
 pub mod Round
+pub mod Slack
 pub mod Total

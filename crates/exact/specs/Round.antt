@@ -1,14 +1,13 @@
 -- Whole units (document 01): the nearest whole number, halves away from zero, as IEEE 754's roundTiesToAway;
 -- and refusal 12.
 use Prim.Native.Nat.{ℕ, _+_, _*_, _/_, _%_}
-use mathlib.Core.Bool.{Bool, cond, _&&_}
-use lib.Dec.{ltb, leb}
+use mathlib.Core.Bool.{cond}
+use lib.Dec.{ltb}
 use lib.IntN.{ℤ, pos, negsuc, negℤ, natAbs}
-use lib.Signed.{leZ}
-use Rattle.ground.specs.Limits.{placeDenMost, placeNumMost}
 use Rattle.ground.specs.Answers.{refusedAt}
 use Rattle.exact.specs.declared.Rounded.{Rounded}
 use Rattle.exact.specs.declared.Rounded.the-variants.{Whole, Refused}
+use Rattle.exact.specs.Places.{withinPlaces}
 
 -- the whole number of magnitude m on z's side of zero
 abbrev pub onSide : ℤ → ℕ → ℤ
@@ -22,10 +21,6 @@ nearestMagnitude a d = cond (ltb (2 * (a % d)) d) (a / d) (a / d + 1)
 -- "a fraction goes to the nearest whole unit; halves go away from zero"
 unfoldable pub roundTiesToAway : ℤ → ℤ → ℤ
 roundTiesToAway num den = onSide num (nearestMagnitude (natAbs num) (natAbs den))
-
--- what refusal 12 is not met by: a denominator from 1 to 4,800 and a numerator within 5,472,000,000 either way
-unfoldable pub withinPlaces : ℤ → ℤ → Bool
-withinPlaces num den = leZ (pos 1) den && leZ den (pos placeDenMost) && leb (natAbs num) placeNumMost
 
 -- document 01's number for each case of the answer (0: not refused), its place, and the whole number given:
 -- with 12 "the whole number given is 0"

@@ -1,8 +1,7 @@
 // Rounding to whole units, with refusal 12.
 use crate::Rounded;
+use crate::places::within_places;
 use ground::Refusal;
-use ground::limits::PLACE_DEN_MOST;
-use ground::limits::PLACE_NUM_MOST;
 ghost use mathlib.Core.Path.{_≡_};
 ghost use Rattle.exact.specs.Divide.{InRange};
 ghost use Rattle.exact.specs.Round.{roundTiesToAway, refusal12, rounded, numberOf, refusedPlace, wholeOf};
@@ -68,16 +67,7 @@ fn refused() -> Rounded
 pub fn round(num: i64, den: i64) -> Rounded
     ensures { λ r. ⌜ r ≡ rounded num den ⌝ }
 {
-    if den < 1 {
-        return refused();
-    }
-    if PLACE_DEN_MOST < den {
-        return refused();
-    }
-    if num < -PLACE_NUM_MOST {
-        return refused();
-    }
-    if PLACE_NUM_MOST < num {
+    if !within_places(num, den) {
         return refused();
     }
     Rounded::Whole(nearest(num, den))

@@ -7,6 +7,7 @@ use exact::compare::compare;
 use exact::divide::gcd;
 use exact::divide::lowest;
 use exact::round::round;
+use exact::slack::slack;
 use ground::limits::FRACTION_DEN_MOST;
 use ground::limits::FRACTION_NUM_MOST;
 use ground::signs::magnitude;
@@ -93,6 +94,28 @@ fn show_round(num: i64, den: i64) {
     let answer = round(num, den);
     io::write_all(1, b" = ");
     print_signed(answer.whole());
+    io::write_all(1, b" number ");
+    io::print_decimal(1, answer.number() as u64);
+    io::write_all(1, b" place ");
+    io::print_decimal(1, answer.place() as u64);
+    io::write_all(1, b"\n");
+}
+
+fn show_slack(a: i64, b: i64, c: i64, d: i64, distance: i64) {
+    io::write_all(1, b"slack ");
+    print_fraction(a, b);
+    io::write_all(1, b" ");
+    print_fraction(c, d);
+    io::write_all(1, b" ");
+    print_signed(distance);
+    let answer = slack(
+        Fraction { num: a, den: b },
+        Fraction { num: c, den: d },
+        distance,
+    );
+    let q = answer.slack();
+    io::write_all(1, b" = ");
+    print_fraction(q.num, q.den);
     io::write_all(1, b" number ");
     io::print_decimal(1, answer.number() as u64);
     io::write_all(1, b" place ");
@@ -227,6 +250,85 @@ fn ends() {
     show_round(0, -9223372036854775808);
 }
 
+fn slacks() {
+    show_slack(-3, 2, 9, 2, 6);
+    show_slack(6, 4, 10, 4, 1);
+    show_slack(1, 2, 1, 3, 0);
+    show_slack(1, 3, 1, 2, 0);
+    show_slack(2, 4, 2, 4, -1);
+    show_slack(2, 4, 2, 4, 1);
+    show_slack(0, 1, 0, 1, 0);
+    show_slack(0, 4800, 0, 4799, 0);
+    show_slack(-9, 2, -3, 2, 3);
+    show_slack(-9, 2, -3, 2, 4);
+    show_slack(-3, 2, -9, 2, -2);
+    show_slack(12, 8, -20, 16, -3);
+    show_slack(7, 3, 9, 4, -1);
+    show_slack(1, 4799, 1, 4800, 0);
+    show_slack(1, 4800, 1, 4799, 0);
+    show_slack(-1, 4800, 1, 4800, 0);
+}
+
+fn slacks_at_limits() {
+    show_slack(-5472000000, 4799, 5472000000, 4800, -20000);
+    show_slack(5472000000, 4800, -5472000000, 4799, 20000);
+    show_slack(-5472000000, 1, 5472000000, 1, -20000);
+    show_slack(5472000000, 1, -5472000000, 1, 20000);
+    show_slack(5472000000, 1, 5472000000, 1, 0);
+    show_slack(-5472000000, 4799, -5472000000, 4800, 0);
+    show_slack(1, 4800, 1, 1, 0);
+    show_slack(1, 1, 1, 4800, 0);
+    show_slack(0, 1, 0, 1, 20000);
+    show_slack(0, 1, 0, 1, -20000);
+    show_slack(0, 1, 20000, 1, 20000);
+    show_slack(1, 4800, 20000, 1, 20000);
+}
+
+fn slacks_past_limits() {
+    show_slack(1, 0, 1, 1, 30000);
+    show_slack(1, 0, 1, 1, 0);
+    show_slack(1, 1, 1, 0, 0);
+    show_slack(1, -1, 1, 1, 0);
+    show_slack(1, 1, 1, -1, 0);
+    show_slack(5472000001, 1, 0, 1, 0);
+    show_slack(0, 1, 5472000001, 1, 0);
+    show_slack(-5472000001, 1, 0, 1, 0);
+    show_slack(0, 1, -5472000001, 1, 0);
+    show_slack(0, 4801, 0, 1, 0);
+    show_slack(0, 1, 0, 4801, 0);
+    show_slack(0, 1, 0, 1, 20001);
+    show_slack(0, 1, 0, 1, -20001);
+    show_slack(0, 1, 0, 4801, 20001);
+    show_slack(5472000001, 4801, -5472000001, 0, -20001);
+}
+
+fn slacks_at_ends() {
+    show_slack(-9223372036854775808, 1, 0, 1, 0);
+    show_slack(0, 1, -9223372036854775808, 1, 0);
+    show_slack(0, -9223372036854775808, 0, 1, 0);
+    show_slack(0, 1, 0, -9223372036854775808, 0);
+    show_slack(0, 1, 0, 1, -9223372036854775808);
+    show_slack(
+        -9223372036854775808,
+        -9223372036854775808,
+        -9223372036854775808,
+        -9223372036854775808,
+        -9223372036854775808,
+    );
+    show_slack(9223372036854775807, 1, 0, 1, 0);
+    show_slack(0, 1, 9223372036854775807, 1, 0);
+    show_slack(0, 9223372036854775807, 0, 1, 0);
+    show_slack(0, 1, 0, 9223372036854775807, 0);
+    show_slack(0, 1, 0, 1, 9223372036854775807);
+    show_slack(
+        9223372036854775807,
+        9223372036854775807,
+        9223372036854775807,
+        9223372036854775807,
+        9223372036854775807,
+    );
+}
+
 fn main() {
     divisors();
     lowest_terms();
@@ -236,4 +338,8 @@ fn main() {
     next_to_halves();
     limits();
     ends();
+    slacks();
+    slacks_at_limits();
+    slacks_past_limits();
+    slacks_at_ends();
 }

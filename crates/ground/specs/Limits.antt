@@ -32,12 +32,17 @@ placeNumMost = 5472000000
 abbrev pub placeMost : ℕ
 placeMost = 1140000
 
--- a fraction that is compared: its denominator, and its numerator either way
+-- a fraction that is compared or whose slack is taken: its denominator; and, compared, its numerator either way
 abbrev pub fractionDenMost : ℕ
 fractionDenMost = 518400
 
 abbrev pub fractionNumMost : ℕ
 fractionNumMost = 2 ^ 62
+
+-- the numerator, either way, of a place whose slack is taken: 3 × 266,112,000,000 (`momentMost`), since a later request
+-- scales places by up to 3
+abbrev pub slackNumMost : ℕ
+slackNumMost = 798336000000
 
 -- numbers that a byte holds are below this
 abbrev pub bytesMost : ℕ

@@ -17,7 +17,7 @@ pub const WEIGHT_LEAST: i64 = 1;
 
 pub const WEIGHT_MOST: i64 = 100;
 
-// A place that is rounded: its denominator at most, its numerator either way.
+// A place that is rounded or whose slack is asked for: its denominator at most, its numerator either way.
 pub const PLACE_DEN_MOST: i64 = 4800;
 
 pub const PLACE_NUM_MOST: i64 = 5472000000;

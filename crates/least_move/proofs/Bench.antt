@@ -14,6 +14,7 @@ use lib.IntN.{ℤ, pos, natAbs}
 use lib.Signed.{_≤ℤ_, _<ℤ_, leZ, ltZ}
 use Rattle.exact.specs.declared.Fraction.{Fraction}
 use Rattle.exact.specs.Fraction.{LowestTerms}
+use Rattle.exact.specs.Slack.{euclid, lowestOf}
 use Rattle.exact.specs.Total.{total}
 use Rattle.algebra.proofs.Whole.{le-antisym, le-of-eq, not-le-of-lt, lt-parts, parts-natAbs}
 use Rattle.algebra.proofs.Ring.{and-parts}
@@ -21,7 +22,7 @@ use Rattle.algebra.proofs.Sum.{last-or-below}
 use Rattle.ground.specs.declared.Label.{Label}
 use Rattle.ground.specs.declared.GapNumber.{GapNumber}
 use Rattle.least_move.specs.Sheet.{Sheet, Gap, Kind, at-least, exactly, ignored, Proper, label, gapNumber}
-use Rattle.least_move.specs.Placement.{Placement, Asks, Feasible, Tight, reach}
+use Rattle.least_move.specs.Placement.{Placement, slackOf, HoldsWith, Feasible, Tight}
 use Rattle.least_move.specs.Multipliers.{Multipliers, Lawful, Conditions}
 use Rattle.least_move.specs.Marks.{Step, forwards, start, finish, Leads}
 use Rattle.least_move.specs.Ring.{Ring, Passable, OnceLeft}
@@ -152,10 +153,10 @@ proper? s =
     on gaps (λ e. less _ _)
     on gaps (λ e. less _ _)
 
-abbrev asks? : (k : Kind) (a b : Fraction) → Test (Asks k a b)
-asks? at-least a b = at-mostℤ _ _
-asks? exactly a b = equalℤ _ _
-asks? ignored a b = granted tt
+abbrev holds? : (k : Kind) (slack : Fraction) → Test (HoldsWith k slack)
+holds? at-least slack = at-mostℤ _ _
+holds? exactly slack = equalℤ _ _
+holds? ignored slack = granted tt
 
 abbrev lawful? : (k : Kind) (q : Fraction) → Test (Lawful k q)
 lawful? at-least q = at-mostℤ _ _
@@ -166,11 +167,11 @@ abbrev feasible? : (s : Sheet) (p : Placement) → Test (Feasible s p)
 feasible? s p =
     granted (λ a b. record { fractions = a; meets = b })
     on labels (λ i. lessℤ _ _)
-    on gaps (λ e. asks? (s .gap e .kind) (reach p (s .gap e)) (p (s .gap e .right)))
+    on gaps (λ e. holds? (s .gap e .kind) (slackOf p (s .gap e)))
 
 abbrev conditions? : (s : Sheet) (p : Placement) (m : Multipliers) → Test (Conditions s p m)
 conditions? s p m =
-    granted (λ a b c d e f. record { feasible = a; fractions = b; lawful = c; slack = d; balance = e; self = f })
+    granted (λ a b c d e f. record { feasible = a; fractions = b; lawful = c; loose = d; balance = e; self = f })
     on feasible? s p
     on gaps (λ e. lessℤ _ _)
     on gaps (λ e. lawful? (s .gap e .kind) (m e))
@@ -409,5 +410,5 @@ case? (moved c) = moved? c
 
 -- every case of the list is right, since the whole list passes
 pub bench-right : (c : Case) → List·Memᴰ c bench → RightCase c
-unfolding bench total
+unfolding bench total lowestOf euclid
 bench-right = each case? bench .shows tt

@@ -25,6 +25,7 @@ use Rattle.least_move.specs.Multipliers.{Multipliers, Lawful, counted, a
 use Rattle.least_move.specs.Moved.{SameButWants}
 use Rattle.least_move.specs.States.{flow, costZ}
 use Rattle.least_move.proofs.Scaled.{slack, Meets-at, Lawful-at, ScaledConditions}
+use Rattle.least_move.proofs.Slack.{holds-asked, holds-asked-back, tight-asked, tight-asked-back}
 
 -- ---- a sheet as plain functions of numbers
 
@@ -102,10 +103,13 @@ slack-eq x g y h =
 
 module _ (s : Sheet) (proper : Proper s) {N : ℤ} (hN : pos 0 <ℤ N) (p : Placement) (fractions : (i : Label) → i .0 < s .labels → IsFraction (p i)) {X : ℕ → ℤ} (placed : Places-at s N X p) where
   module _ (e : ℕ) (h : e < s .gaps) where
+    left-above : IsFraction (p (s .gap (gapNumber e) .left))
+    left-above = fractions (s .gap (gapNumber e) .left) (proper .left-in (gapNumber e) h)
+
     reach-above : IsFraction (reach p (s .gap (gapNumber e)))
     reach-above =
         let c : Gap = s .gap (gapNumber e) in
-        ⊕-above (p (c .left)) (whole (c .distance)) (fractions (c .left) (proper .left-in (gapNumber e) h)) (whole-above (c .distance))
+        ⊕-above (p (c .left)) (whole (c .distance)) left-above (whole-above (c .distance))
 
     reach-scale : AtScale N (X (lefts s e) +ℤ distances N s e) (reach p (s .gap (gapNumber e)))
     reach-scale = ⊕-scale (placed (lefts s e) (proper .left-in (gapNumber e) h)) (whole-scale N (s .gap (gapNumber e) .distance))
@@ -123,26 +127,32 @@ module _ (s : Sheet) (proper : Proper s) {N : ℤ} (hN : pos 0 <ℤ N) (p : Plac
     reached-back : pos 0 ≤ℤ slack (lefts s) (rights s) (distances N s) X e → reach p (s .gap (gapNumber e)) ≼ p (s .gap (gapNumber e) .right)
     reached-back k = ≼-scale hN reach-above right-above reach-scale right-scale .1 (slack-le (X (lefts s e)) (distances N s e) (X (rights s e)) k)
 
+    equal : reach p (s .gap (gapNumber e)) ≃ p (s .gap (gapNumber e) .right) → slack (lefts s) (rights s) (distances N s) X e ≡ pos 0
+    equal k = eq-slack (X (lefts s e)) (distances N s e) (X (rights s e)) (≃-scale hN reach-above right-above reach-scale right-scale .0 k)
+
+    equal-back : slack (lefts s) (rights s) (distances N s) X e ≡ pos 0 → reach p (s .gap (gapNumber e)) ≃ p (s .gap (gapNumber e) .right)
+    equal-back k = ≃-scale hN reach-above right-above reach-scale right-scale .1 (slack-eq (X (lefts s e)) (distances N s e) (X (rights s e)) k)
+
     pub tight : Tight p (s .gap (gapNumber e)) → slack (lefts s) (rights s) (distances N s) X e ≡ pos 0
-    tight k = eq-slack (X (lefts s e)) (distances N s e) (X (rights s e)) (≃-scale hN reach-above right-above reach-scale right-scale .0 k)
+    tight k = equal (tight-asked p (s .gap (gapNumber e)) left-above right-above k)
 
     pub tight-back : slack (lefts s) (rights s) (distances N s) X e ≡ pos 0 → Tight p (s .gap (gapNumber e))
-    tight-back k = ≃-scale hN reach-above right-above reach-scale right-scale .1 (slack-eq (X (lefts s e)) (distances N s e) (X (rights s e)) k)
+    tight-back k = tight-asked-back p (s .gap (gapNumber e)) left-above right-above (equal-back k)
 
     pub meets-at : Holds p (s .gap (gapNumber e)) → Meets-at (kinds s e) (slack (lefts s) (rights s) (distances N s) X e)
-    meets-at = go (kinds s e)
+    meets-at k = go (kinds s e) (holds-asked p (s .gap (gapNumber e)) left-above right-above k)
       where
         go : (k : Kind) → Asks k (reach p (s .gap (gapNumber e))) (p (s .gap (gapNumber e) .right)) → Meets-at k (slack (lefts s) (rights s) (distances N s) X e)
         go at-least a = reached a
-        go exactly a = tight a
+        go exactly a = equal a
         go ignored a = tt
 
     pub meets-back : Meets-at (kinds s e) (slack (lefts s) (rights s) (distances N s) X e) → Holds p (s .gap (gapNumber e))
-    meets-back = go (kinds s e)
+    meets-back k = holds-asked-back p (s .gap (gapNumber e)) left-above right-above (go (kinds s e) k)
       where
         go : (k : Kind) → Meets-at k (slack (lefts s) (rights s) (distances N s) X e) → Asks k (reach p (s .gap (gapNumber e))) (p (s .gap (gapNumber e) .right))
         go at-least a = reached-back a
-        go exactly a = tight-back a
+        go exactly a = equal-back a
         go ignored a = tt
 
 -- a feasible placement meets every gap at the scale
@@ -208,24 +218,25 @@ module _ (s : Sheet) (proper : Proper s) {N : ℤ} (hN : pos 0 <ℤ N) (p : Plac
     some = some-scale s hN p m (c .feasible .fractions) (c .fractions) placed carried e h .0
 
     lawful-at : Lawful-at (kinds s e) (Λ e) (slack (lefts s) (rights s) (distances N s) X e)
-    lawful-at = go (kinds s e) (c .lawful (gapNumber e) h) (c .feasible .meets (gapNumber e) h)
+    lawful-at =
+        go (kinds s e) (c .lawful (gapNumber e) h)
+        (meets-at s proper hN p (c .feasible .fractions) placed e h (c .feasible .meets (gapNumber e) h))
       where
         room : ℤ
         room = slack (lefts s) (rights s) (distances N s) X e
 
-        go : (k : Kind) → Lawful k (m (gapNumber e)) → Asks k (reach p (s .gap (gapNumber e))) (p (s .gap (gapNumber e) .right)) → Lawful-at k (Λ e) room
-        go at-least l a =
-            let meets : pos 0 ≤ℤ room = reached s proper hN p (c .feasible .fractions) placed e h a in
+        go : (k : Kind) → Lawful k (m (gapNumber e)) → Meets-at k room → Lawful-at k (Λ e) room
+        go at-least l meets =
             record {
               meets = meets;
               carries = some l;
               one = ⊎-elim (λ (k : room ≤ℤ pos 0). inr (le-antisym k meets))
                   (λ (k : pos 0 <ℤ room).
-                  inl (none (c .slack (gapNumber e) h (λ (t : Tight p (s .gap (gapNumber e))). not-le-of-lt k (le-of-eq (tight s proper hN p (c .feasible .fractions) placed e h t))))))
+                  inl (none (c .loose (gapNumber e) h (λ (t : Tight p (s .gap (gapNumber e))). not-le-of-lt k (le-of-eq (tight s proper hN p (c .feasible .fractions) placed e h t))))))
                   (le-or-lt room (pos 0));
             }
-        go exactly l a = tight s proper hN p (c .feasible .fractions) placed e h a
-        go ignored l a = none l
+        go exactly l meets = meets
+        go ignored l meets = none l
 
   -- the conditions at the scale
   pub conditions-at : Conditions-at s N (wants N s) X Λ

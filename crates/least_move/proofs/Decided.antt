@@ -102,7 +102,7 @@ module _ (s : Sheet) (p : Placement) (m k : Multipliers) (proper : Proper s) (c 
             ⊎-elim (λ q. absurd (differ (sym other ∙ eq-eqb e f (sym q))))
             (λ rest.
             ⊎-elim (λ none. absurd (⊎-elim (none .0) (none .1) ends))
-            (λ loose. both-zero f h (c .slack (gapNumber f) h loose) (d .slack (gapNumber f) h loose))
+            (λ loose. both-zero f h (c .loose (gapNumber f) h loose) (d .loose (gapNumber f) h loose))
             rest)
             (a .idle f h))
           where
@@ -119,7 +119,7 @@ module _ (s : Sheet) (p : Placement) (m k : Multipliers) (proper : Proper s) (c 
       where
         none : apart e ≡ pos 0
         none =
-            ⊎-elim (λ loose. both-zero e below (c .slack (gapNumber e) below loose) (d .slack (gapNumber e) below loose))
+            ⊎-elim (λ loose. both-zero e below (c .loose (gapNumber e) below loose) (d .loose (gapNumber e) below loose))
             (λ rest.
             ⊎-elim (λ self. both-zero e below (c .self (gapNumber e) below self) (d .self (gapNumber e) below self))
             (λ alone. ⊎-elim (alone-apart (lefts s e)) (alone-apart (rights s e)) alone)

@@ -1,5 +1,6 @@
 pub mod Flow
 pub mod Scaled
+pub mod Slack
 pub mod Bridge
 pub mod Laws
 pub mod Forest

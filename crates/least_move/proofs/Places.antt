@@ -3,11 +3,12 @@ use mathlib.Core.Path.{_≡_, subst}
 use Prim.Native.Nat.{_<_}
 use lib.IntN.{pos}
 use Rattle.exact.specs.declared.Fraction.{Fraction}
-use Rattle.exact.specs.Fraction.{IsFraction, _≃_, _⊕_, _⊖_, _⊛_, whole}
+use Rattle.exact.specs.Fraction.{IsFraction, _≃_, _⊖_, _⊛_, whole}
+use Rattle.exact.specs.Slack.{slackBetween}
 use Rattle.ground.specs.declared.Label.{Label}
 use Rattle.ground.specs.declared.GapNumber.{GapNumber}
 use Rattle.least_move.specs.Sheet.{Sheet, Proper}
-use Rattle.least_move.specs.Placement.{Placement, Asks}
+use Rattle.least_move.specs.Placement.{Placement, HoldsWith}
 use Rattle.least_move.specs.Multipliers.{Multipliers, asRight, asLeft, Conditions}
 
 module _ {s : Sheet} (proper : Proper s) {p q : Placement} (same : (i : Label) → i .0 < s .labels → p i ≡ q i) where
@@ -22,11 +23,11 @@ module _ {s : Sheet} (proper : Proper s) {p q : Placement} (same : (i : Label) �
       record {
         feasible = record {
           fractions = λ i h. subst IsFraction (same i h) (c .feasible .fractions i h);
-          meets = λ e h. at-ends (λ a b. Asks (s .gap e .kind) (a ⊕ whole (s .gap e .distance)) b) e h (c .feasible .meets e h);
+          meets = λ e h. at-ends (λ a b. HoldsWith (s .gap e .kind) (slackBetween a b (s .gap e .distance))) e h (c .feasible .meets e h);
         };
         fractions = c .fractions;
         lawful = c .lawful;
-        slack = λ e h loose. c .slack e h (λ tight. loose (at-ends (λ a b. (a ⊕ whole (s .gap e .distance)) ≃ b) e h tight));
+        loose = λ e h loose. c .loose e h (λ tight. loose (at-ends (λ a b. slackBetween a b (s .gap e .distance) .num ≡ pos 0) e h tight));
         balance = λ i h. subst (λ (x : Fraction). pos 2 ⊛ (s .weight i ⊛ (x ⊖ whole (s .wanted i))) ≃ (asRight s m i ⊖ asLeft s m i)) (same i h) (c .balance i h);
         self = c .self;
       }

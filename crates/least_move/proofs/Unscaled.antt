@@ -116,7 +116,7 @@ module _ (s : Sheet) (proper : Proper s) (F : ℕ → Bool) (indep : Independent
         feasible = record { fractions = places; meets = λ e h. meets-back s proper above p places placed (e .0) h (meets (e .0) h) };
         fractions = fractions;
         lawful = λ e h. lawful-back (e .0) h (s .gap e .kind) refl;
-        slack = λ e h loose. by-mark (F (e .0)) (λ (t : F (e .0) ≡ true). absurd (loose (held (e .0) h t))) (unloaded (e .0) h);
+        loose = λ e h loose. by-mark (F (e .0)) (λ (t : F (e .0) ≡ true). absurd (loose (held (e .0) h t))) (unloaded (e .0) h);
         balance = λ i h. balance-scale s above p k places fractions placed carried (i .0) h .1 (balanced (i .0) h);
         self =
             λ e h q.

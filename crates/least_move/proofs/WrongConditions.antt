@@ -4,6 +4,7 @@ use mathlib.Core.List.{List, [], _∷_}
 use native.Mathlib.Omega.{arith}
 use lib.IntN.{pos, natAbs}
 use Rattle.exact.specs.declared.Fraction.{Fraction}
+use Rattle.exact.specs.Slack.{euclid, lowestOf}
 use Rattle.exact.specs.Total.{total}
 use Rattle.least_move.specs.Sheet.{label, gapNumber}
 use Rattle.least_move.specs.Multipliers.{Conditions}
@@ -35,7 +36,8 @@ turned-multiplier c = c .lawful (gapNumber 0) (omega arith) .le
 
 -- a multiplier on a gap with room to spare: -10, 10 with 20
 slack-multiplier : Admitted (first (minus 10 over 1 ∷ pos 10 over 1 ∷ []) (pos 20 over 1)) → ⊥
-slack-multiplier c = omega (arith, ap natAbs (c .slack (gapNumber 0) (omega arith) (λ t. omega (arith, ap natAbs t))))
+unfolding lowestOf euclid
+slack-multiplier c = omega (arith, ap natAbs (c .loose (gapNumber 0) (omega arith) (λ t. omega (arith, ap natAbs t))))
 
 -- the gaps of P8 sum to zero, and are no ring
 zero-ring : Ring (written (sheet (pos 0 ∷ pos 0 ∷ []) (pos 1 ∷ pos 1 ∷ []) (0 to 1 of pos 5 ∷ 1 to 0 of minus 5 ∷ []))) (forwards 0) (forwards 1 ∷ []) → ⊥

@@ -39,7 +39,7 @@ pub record Conditions (s : Sheet) (p : Placement) (m : Multipliers) : Type 0 whe
   pub fractions : (e : GapNumber) → e .0 < s .gaps → IsFraction (m e)
   pub lawful : (e : GapNumber) → e .0 < s .gaps → Lawful (s .gap e .kind) (m e)
   -- "zero where the gap is not tight"
-  pub slack : (e : GapNumber) → e .0 < s .gaps → ¬ (Tight p (s .gap e)) → m e ≃ whole (pos 0)
+  pub loose : (e : GapNumber) → e .0 < s .gaps → ¬ (Tight p (s .gap e)) → m e ≃ whole (pos 0)
   -- "2 × w × (place - d) = the sum of multipliers of gaps with this label on the right,
   -- less the sum of those with it on the left"
   pub balance : (i : Label) → i .0 < s .labels → pos 2 ⊛ (s .weight i ⊛ move s p i) ≃ (asRight s m i ⊖ asLeft s m i)

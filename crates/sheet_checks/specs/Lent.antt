@@ -11,6 +11,7 @@ use Rattle.ground.specs.declared.GapNumber.{GapNumber}
 use Rattle.ground.specs.Entries.{nat, int, noRecord}
 use Rattle.ground.specs.Views.{Param}
 use Rattle.exact.specs.declared.Fraction.{Fraction}
+use Rattle.exact.specs.Fraction.{fractionAt}
 use Rattle.least_move.specs.Sheet.{Sheet, Gap, at-least, label}
 
 -- "left, right and distance of each gap. The gaps may also be lent as one list of records"
@@ -65,9 +66,6 @@ sheetOf r = record {
 }
 
 -- "A label's place is the numerator written for it over the denominator written for it", and so a gap's multiplier
-abbrev pub fractionAt : List ℤ → List ℤ → ℕ → Fraction
-fractionAt nums dens k = record { num = int nums k; den = int dens k }
-
 abbrev pub placeOf : Written → Label → Fraction
 placeOf w i = fractionAt (w .place-num) (w .place-den) (i .0)
 

@@ -26,7 +26,7 @@ use Rattle.text_reading.specs.declared.Reading.{Reading}
 use Rattle.text_reading.specs.declared.Reading.the-variants.{Sheet, Refused}
 use Rattle.text_reading.specs.Texts.{Lists, reading}
 use Rattle.text_listing.specs.Listing.{listing, refusedRecord}
-use Rattle.sheet_run.specs.Run.{blank, sheetRead, lent, LaidFrom, PrintedFor, Run}
+use Rattle.sheet_run.specs.Run.{LaidFrom, PrintedFor, Run, blank, lent, listableRead, sheetRead}
 use Rattle.sheet_run.proofs.Refusals.{SmallReading, small-reading}
 
 -- a refusal's ring is not printed
@@ -61,7 +61,7 @@ module _ (c : Counts) (l : Lists) (few : c .labels ≤ 48) (known : c .labels �
   tables : table (sheetRead c l) w′ ≡ table (sheetRead c l) w
   tables = ap (tableFor (sheetRead c l)) (rooms′ ∙ sym rooms)
 
-  -- the same answer over the same first places is printed alike
+  -- the same answer over the same first places is printed alike, since both list the gaps that were read
   alike : one .answer ≡ two .answer → take (c .labels) (one .after .place-num) ≡ take (c .labels) (two .after .place-num)
       → take (c .labels) (one .after .place-den) ≡ take (c .labels) (two .after .place-den) → p ≡ q
   alike a nums dens = one .listed ∙ rw (a, nums, dens) (sym (two .listed))
@@ -69,9 +69,9 @@ module _ (c : Counts) (l : Lists) (few : c .labels ≤ 48) (known : c .labels �
   both-refused : (number place ring ring′ : ℕ) → one .answer ≡ refusal number place ring → two .answer ≡ refusal number place ring′ → p ≡ q
   both-refused number place ring ring′ a b =
       one .listed
-      ∙ ap (λ (x : Answer). listing x (take (c .labels) (one .after .place-num)) (take (c .labels) (one .after .place-den))) a
+      ∙ ap (λ (x : Answer). listing x (listableRead c l (one .after))) a
       ∙ ring-unprinted number place ring ring′
-      ∙ sym (ap (λ (x : Answer). listing x (take (c .labels) (two .after .place-num)) (take (c .labels) (two .after .place-den))) b)
+      ∙ sym (ap (λ (x : Answer). listing x (listableRead c l (two .after))) b)
       ∙ sym (two .listed)
 
   both-placed : one .answer ≡ answer.Placed → Accepted (sheetOf (sheetRead c l)) w (one .after) → two .answer ≡ answer.Placed

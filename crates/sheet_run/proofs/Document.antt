@@ -16,7 +16,7 @@ use Rattle.layout.proofs.Facts.{placed-accepted}
 use Rattle.text_reading.specs.declared.Reading.the-variants.{Sheet as sheet-of}
 use Rattle.text_reading.specs.Texts.{Lists, Done, countsOf, filled, roomFor, reading}
 use Rattle.text_reading.proofs.Examples.{document-text, document-sheet, document-run}
-use Rattle.text_listing.proofs.Samples.{first-record, second-record, run-listed}
+use Rattle.text_listing.proofs.Samples.{first-record, run-listed, second-record, slack-record}
 use Rattle.sheet_run.specs.Run.{blank, sheetRead, lent, LaidOut, PrintedFor, Run}
 use Rattle.sheet_run.proofs.Decided.{first-same}
 
@@ -61,10 +61,11 @@ module _ {printed : List ℕ} (laid : LaidOut (countsOf document-sheet) lists-re
       at (suc zero) h = ap (λ (f : Fraction). f .den) (known .places (label 1) h)
       at (suc (suc k)) h = absurd (omega arith)
 
-  prints : printed ≡ first-record ++ second-record
+  prints : printed ≡ first-record ++ second-record ++ slack-record
+  unfolding filled
   prints = laid .listed ∙ rw (known .answered, nums, dens) run-listed
 
--- a run on document 01's text that keeps the promise prints document 01's listing
-pub document-prints : {before after : List ℕ} {n : ℕ} → Run document-text before n after → take n after ≡ first-record ++ second-record
+-- a run on document 01's text that keeps the promise prints document 01's listing, and after its places the slack of its gap
+pub document-prints : {before after : List ℕ} {n : ℕ} → Run document-text before n after → take n after ≡ first-record ++ second-record ++ slack-record
 document-prints {after = after} {n = n} r =
     prints (subst (λ (d : Done). PrintedFor (d .answer) (d .lists) (take n after)) read-so (r .prints))

@@ -1,7 +1,6 @@
--- 3,072 bytes are enough for what any run prints, so the listing is never refused with 4.
+-- 24,576 bytes are enough for what any run prints, so the listing is never refused with 4.
 use Prim.Native.Nat.{ℕ, zero, suc, _≤_, _<_}
 use mathlib.Core.Path.{_≡_, refl}
-use mathlib.Core.Logic.{⊎-elim}
 use mathlib.Core.Bool.{Bool, true, false}
 use mathlib.Core.List.{List, [], _∷_}
 use native.Mathlib.Omega.{arith}
@@ -17,21 +16,19 @@ use Rattle.algebra.proofs.Quotient.{small-fits}
 use Rattle.least_move.specs.Sheet.{label}
 use Rattle.ground.specs.declared.Answer.{Answer}
 use Rattle.ground.specs.declared.Answer.the-variants as answer
-use Rattle.sheet_checks.specs.declared.Checked.{Checked}
-use Rattle.sheet_checks.specs.declared.Checked.the-variants as checked
-use Rattle.sheet_checks.specs.Lent.{Read, Written, labelCount, gapCount, sheetOf}
-use Rattle.sheet_checks.specs.Refusals.{table}
-use Rattle.layout.specs.Promise.{Promise, ByTable, Accepted}
+use Rattle.sheet_checks.specs.Lent.{Written, labelCount, sheetOf}
+use Rattle.layout.specs.Promise.{Promise, Accepted}
+use Rattle.layout.proofs.Facts.{placed-accepted}
 use Rattle.text_reading.specs.declared.Counts.{Counts}
 use Rattle.text_reading.specs.declared.Reading.{Reading}
 use Rattle.text_reading.specs.declared.Reading.the-variants.{Sheet, Refused}
-use Rattle.text_reading.specs.Texts.{Lists, reading, textMost}
+use Rattle.text_reading.specs.Texts.{Lists, reading}
 use Rattle.text_listing.specs.Listing.{listing, refusedRecord, listingRoom}
-use Rattle.text_listing.proofs.Size.{AllFit, length-place-records, length-refused-record}
-use Rattle.sheet_run.specs.Run.{blank, sheetRead, lent, PrintedFor}
+use Rattle.text_listing.proofs.Size.{AllFit, length-refused-record, length-sheet-records}
+use Rattle.sheet_run.specs.Run.{blank, lent, listableRead, PrintedFor, sheetRead}
 use Rattle.sheet_run.proofs.Refusals.{Small, SmallReading, small-reading, small-answer}
 
-take-most : {A : Type 0} (n : ℕ) (l : List A) → length (take n l) ≤ n
+pub take-most : {A : Type 0} (n : ℕ) (l : List A) → length (take n l) ≤ n
 take-most zero l = omega arith
 take-most (suc n) [] = omega arith
 take-most (suc n) (x ∷ l) = omega (arith, take-most n l)
@@ -49,47 +46,34 @@ first-fit n l small k = go (ltb k n) refl
     go true e = rw (getD-take n l k (pos 0) (ltb-true k n e)) (small-fits (getD l k (pos 0)) (omega (arith, small k (ltb-true k n e))))
     go false e = rw (List·getD-eq-default (take n l) (pos 0) {n = k} (omega (arith, take-most n l, ltb-false k n e))) (small-fits (pos 0) (omega arith))
 
-module _ (r : Read) (w : Written) (after : Written) (n : ℕ) (few : n ≤ 48) (known : n ≤ labelCount r) where
-  -- "Every place is over a denominator of at most 4,800 and lies within 1,140,000 of zero"
-  placed-most : Accepted (sheetOf r) w after → length (listing answer.Placed (take n (after .place-num)) (take n (after .place-den))) ≤ listingRoom
+-- a layout of the sheet that was read
+module _ (c : Counts) (l : Lists) (w after : Written) (few : c .labels ≤ 48) (gaps : c .gaps ≤ 192) (known : c .labels ≤ length (l .wanted)) where
+  -- its labels are those that were counted
+  counted : labelCount (sheetRead c l) ≡ c .labels
+  counted = length-take-le (c .labels) (l .wanted) known
+
+  -- "Every place is over a denominator of at most 4,800 and lies within 1,140,000 of zero"; any slack fits its record
+  placed-most : Accepted (sheetOf (sheetRead c l)) w after → length (listing answer.Placed (listableRead c l after)) ≤ listingRoom
   unfolding sheetOf
   placed-most a =
       omega (
         arith,
-        take-most n (after .place-num),
-        length-place-records (length (take n (after .place-num))) (take n (after .place-num))
-            (take n (after .place-den)) (omega (arith, take-most n (after .place-num)))
-            (first-fit n (after .place-num) (λ k h. omega (arith, a .near (label k) (omega arith), a .den-most (label k) (omega arith))))
-            (first-fit n (after .place-den) (λ k h. omega (arith, a .den-most (label k) (omega arith)))),
+        length-sheet-records (listableRead c l after) (omega (arith, take-most (c .labels) (after .place-num))) (omega (arith, take-most (c .gaps) (l .left)))
+            (first-fit (c .labels) (after .place-num) (λ k h. omega (arith, a .near (label k) (omega (arith, counted)), a .den-most (label k) (omega (arith, counted)))))
+            (first-fit (c .labels) (after .place-den) (λ k h. omega (arith, a .den-most (label k) (omega (arith, counted))))),
       )
 
-  answer-most : (a : Answer) → labelCount r ≤ textMost → gapCount r ≤ textMost → Promise r w a after → length (listing a (take n (after .place-num)) (take n (after .place-den))) ≤ listingRoom
-  answer-most (answer.Refused x) l g p = refused-most x (small-answer r w (answer.Refused x) after l g p)
-  answer-most answer.Placed l g p = go (table r w) (p .kept)
-    where
-      never : {x : Refusal} → answer.Placed ≡ answer.Refused x → ⊥
-      never e = let z : _≡_ {A = ℕ} 0 1 = cc in omega arith
+  -- its listing
+  pub laid-out-most : (a : Answer) → Promise (sheetRead c l) w a after → length (listing a (listableRead c l after)) ≤ listingRoom
+  laid-out-most (answer.Refused x) p =
+      refused-most x
+      (small-answer (sheetRead c l) w (answer.Refused x) after (omega (arith, counted)) (omega (arith, take-most (c .gaps) (l .left))) p)
+  laid-out-most answer.Placed p = placed-most (placed-accepted p refl)
 
-      go : (v : Checked) → ByTable v (sheetOf r) w answer.Placed after → length (listing answer.Placed (take n (after .place-num)) (take n (after .place-den))) ≤ listingRoom
-      go (checked.Refused q) k = absurd (never (k .0))
-      go checked.Pass k = ⊎-elim (λ j. placed-most (j .1)) (λ j. absurd (never (j .0))) k
-
--- the listing of a layout of the sheet that was read
-pub laid-out-most : (c : Counts) (l : Lists) (w : Written) (a : Answer) (after : Written) → c .labels ≤ 48 → c .gaps ≤ 192
-    → c .labels ≤ length (l .wanted) → Promise (sheetRead c l) w a after
-    → length (listing a (take (c .labels) (after .place-num)) (take (c .labels) (after .place-den))) ≤ listingRoom
-laid-out-most c l w a after few gaps known p =
-    answer-most (sheetRead c l) w after (c .labels) few
-    (omega (arith, length-take-le (c .labels) (l .wanted) known))
-    a
-    (omega (arith, take-most (c .labels) (l .wanted)))
-    (omega (arith, take-most (c .gaps) (l .left)))
-    p
-
--- what is printed for any text has at most 3,072 bytes
+-- what is printed for any text has at most 24,576 bytes
 pub printed-most : (text printed : List ℕ) → PrintedFor (reading text blank .answer) (reading text blank .lists) printed → length printed ≤ listingRoom
 printed-most text printed h = go (reading text blank .answer) (reading text blank .lists) (small-reading text blank) h
   where
     go : (r : Reading) (l : Lists) → SmallReading r l → PrintedFor r l printed → length printed ≤ listingRoom
     go (Refused x) l s e = rw e (refused-most x s)
-    go (Sheet c) l s d = rw (d .listed) (laid-out-most c l (lent c) (d .answer) (d .after) (s .0) (s .1) (s .2) (d .promise))
+    go (Sheet c) l s d = rw (d .listed) (laid-out-most c l (lent c) (d .after) (s .0) (s .1) (s .2) (d .answer) (d .promise))

@@ -4,4 +4,5 @@ pub mod Printing
 pub mod Runs
 pub mod Decided
 pub mod Document
+pub mod Slacks
 pub mod WrongRuns

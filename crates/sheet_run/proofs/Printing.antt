@@ -5,13 +5,13 @@ use mathlib.Core.List.{List, _∷_, _++_}
 use native.Mathlib.Omega.{arith}
 use lib.ListN.{length, take, drop, replicate, length-append, length-drop}
 use lib.Seq.{take-at, drop-at}
-use lib.IntN.{ℤ}
 use borrow.Author.Tests.{le-leb, le-ltb, eq-eqb}
 use Rattle.ground.specs.declared.Refusal.{Refusal}
 use Rattle.ground.specs.declared.Answer.{Answer}
 use Rattle.ground.specs.declared.Answer.the-variants as answer
+use Rattle.ground.specs.Limits.{gapsMost, labelsMost}
 use Rattle.text_listing.specs.declared.Listed.the-variants.{Written, Refused}
-use Rattle.text_listing.specs.Listing.{Listing, listing, listedIn, listingRoom}
+use Rattle.text_listing.specs.Listing.{Listable, Listing, Within, gapsIn, labelsIn, listedIn, listing, listingRoom}
 use Rattle.sheet_run.specs.Steps.{Printed}
 
 -- the first of some equal entries
@@ -20,35 +20,40 @@ take-replicate x zero m h = refl
 take-replicate x (suc n) zero h = absurd (omega arith)
 take-replicate x (suc n) (suc m) h = ap (λ l. x ∷ l) (take-replicate x n m (omega arith))
 
-module _ (a : Answer) (nums dens : List ℤ) (b : List ℕ) (few : length nums ≤ 48) (even : length dens ≡ length nums) (fits : length (listing a nums dens) ≤ length b) where
-  whole : listedIn a nums dens b ≡ record { answer = Written (length (listing a nums dens)); buffer = listing a nums dens ++ drop (length (listing a nums dens)) b }
+module _ (a : Answer) (l : Listable) (b : List ℕ) (within : Within l) (fits : length (listing a l) ≤ length b) where
+  whole : listedIn a l b ≡ record { answer = Written (length (listing a l)); buffer = listing a l ++ drop (length (listing a l)) b }
   unfolding listedIn
   whole = go a fits
     where
-      go : (x : Answer) → length (listing x nums dens) ≤ length b
-          → listedIn x nums dens b ≡ record {
-            answer = Written (length (listing x nums dens));
-            buffer = listing x nums dens ++ drop (length (listing x nums dens)) b;
-          }
-      go answer.Placed h = rw (le-ltb 48 (length nums) few, eq-eqb (length dens) (length nums) even, le-leb _ _ h)
+      go : (x : Answer) → length (listing x l) ≤ length b
+          → listedIn x l b ≡ record { answer = Written (length (listing x l)); buffer = listing x l ++ drop (length (listing x l)) b }
+      go answer.Placed h =
+          rw (
+            le-ltb labelsMost (labelsIn l) (within .labels),
+            le-ltb gapsMost (gapsIn l) (within .gaps),
+            eq-eqb (length (l .place-den)) (labelsIn l) (within .dens),
+            eq-eqb (length (l .right)) (gapsIn l) (within .right),
+            eq-eqb (length (l .distance)) (gapsIn l) (within .distance),
+            le-leb _ _ h,
+          )
       go (answer.Refused r) h = rw (le-leb _ _ h)
 
-  pub never-refused : {r : Refusal} → Refused r ≡ listedIn a nums dens b .answer → ⊥
+  pub never-refused : {r : Refusal} → Refused r ≡ listedIn a l b .answer → ⊥
   never-refused {r} e =
-      let k : Refused r ≡ Written (length (listing a nums dens)) = e ∙ ap (λ (l : Listing). l .answer) whole in
+      let k : Refused r ≡ Written (length (listing a l)) = e ∙ ap (λ (d : Listing). d .answer) whole in
       let z : _≡_ {A = ℕ} 0 1 = cc in
       omega arith
 
-  pub printed : (n : ℕ) (after : List ℕ) → length b ≡ listingRoom → Written n ≡ listedIn a nums dens b .answer → after ≡ listedIn a nums dens b .buffer → Printed (listing a nums dens) b n after
+  pub printed : (n : ℕ) (after : List ℕ) → length b ≡ listingRoom → Written n ≡ listedIn a l b .answer → after ≡ listedIn a l b .buffer → Printed (listing a l) b n after
   printed n after size e laid =
-      let k : Written n ≡ Written (length (listing a nums dens)) = e ∙ ap (λ (l : Listing). l .answer) whole in
-      let counted : n ≡ length (listing a nums dens) = cc in
-      let over : after ≡ listing a nums dens ++ drop (length (listing a nums dens)) b = laid ∙ ap (λ (l : Listing). l .buffer) whole in
+      let k : Written n ≡ Written (length (listing a l)) = e ∙ ap (λ (d : Listing). d .answer) whole in
+      let counted : n ≡ length (listing a l) = cc in
+      let over : after ≡ listing a l ++ drop (length (listing a l)) b = laid ∙ ap (λ (d : Listing). d .buffer) whole in
       rw (over, counted) (record {
         within = omega arith;
-        front = take-at (listing a nums dens) (drop (length (listing a nums dens)) b) (length (listing a nums dens)) refl;
+        front = take-at (listing a l) (drop (length (listing a l)) b) (length (listing a l)) refl;
         rest = record {
           size = simp (length-append, length-drop) (omega arith);
-          beyond = drop-at (listing a nums dens) (drop (length (listing a nums dens)) b) (length (listing a nums dens)) refl;
+          beyond = drop-at (listing a l) (drop (length (listing a l)) b) (length (listing a l)) refl;
         };
       })

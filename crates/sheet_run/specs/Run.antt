@@ -12,7 +12,7 @@ use Rattle.text_reading.specs.declared.Counts.{Counts}
 use Rattle.text_reading.specs.declared.Reading.{Reading}
 use Rattle.text_reading.specs.declared.Reading.the-variants.{Sheet, Refused}
 use Rattle.text_reading.specs.Texts.{Lists, reading}
-use Rattle.text_listing.specs.Listing.{listing, listingRoom, refusedRecord}
+use Rattle.text_listing.specs.Listing.{Listable, listing, listingRoom, refusedRecord}
 use Rattle.ground.specs.Limits.{gapsMost, labelsMost}
 
 -- so many zeros
@@ -45,13 +45,24 @@ lentOver c nums dens = record {
 abbrev pub lent : Counts → Written
 lent c = lentOver c (zeros labelsMost) (zeros labelsMost)
 
+-- what is listed: the places that a call left, and the gaps that were read
+abbrev pub listableRead : Counts → Lists → Written → Listable
+listableRead c l after = record {
+  place-num = take (c .labels) (after .place-num);
+  place-den = take (c .labels) (after .place-den);
+  left = take (c .gaps) (l .left);
+  right = take (c .gaps) (l .right);
+  distance = take (c .gaps) (l .distance);
+}
+
 -- the listing of what a layout call that keeps its promise answers, lent w to write;
--- it "prints neither multipliers nor rings"
+-- it "prints neither multipliers nor rings". For an accepted sheet the slack printed for a gap is that of its places, and
+-- none is negative (`printed-slack`, `printed-held` in proofs/Slacks).
 pub record LaidFrom (w : Written) (c : Counts) (l : Lists) (printed : List ℕ) : Type 0 where
   pub answer : Answer
   pub after : Written
   pub promise : Promise (sheetRead c l) w answer after
-  pub listed : printed ≡ listing answer (take (c .labels) (after .place-num)) (take (c .labels) (after .place-den))
+  pub listed : printed ≡ listing answer (listableRead c l after)
 
 -- "The program starts from a carried record of zeros". No byte that is printed can show it: from any other record of
 -- that length, and whatever buffers of these sizes held, the same is printed (`start-unseen` in proofs/Decided).

@@ -9,13 +9,11 @@ use text_listing::listing::write_listing;
 use text_reading::Counts;
 use text_reading::Reading;
 use text_reading::read::read_sheet;
-ghost use mathlib.Core.Path.{_≡_};
 ghost use Prim.Native.Nat.{_≤_};
 ghost use lib.ListN.{length};
-ghost use Rattle.text_listing.specs.Listing.{listing, listingRoom};
+ghost use Rattle.text_listing.specs.Listing.{Within, listableLent, listableNow, listing, listingRoom};
 ghost use Rattle.sheet_run.specs.Steps.{Holds, Answered, Printed, PrintedRead};
 ghost use Rattle.sheet_run.specs.Run.{Run};
-ghost use Rattle.ground.specs.Limits.{labelsMost};
 ghost use Rattle.text_reading.specs.Texts.{listsLent, listsNow};
 ghost use Rattle.ground.specs.Views.{after, before};
 
@@ -57,19 +55,31 @@ fn lay_out_read(
     )
 }
 
-// Prints an answer with the places of its labels, and tells how many bytes.
+// Prints an answer with the places of its labels and the slacks of its gaps, and tells how many bytes.
 fn print(
     answer: Answer,
     place_num: &[i64],
     place_den: &[i64],
+    left: &[usize],
+    right: &[usize],
+    distance: &[i64],
     out: &mut [u8; LISTING_ROOM],
 ) -> usize
-    requires { ⌜ (length (now «place_num») ≤ labelsMost)
-        × (length (now «place_den») ≡ length (now «place_num»))
-        × (length (listing answer (now «place_num») (now «place_den»)) ≤ listingRoom) ⌝ }
-    ensures { λ r. ⌜ Printed (listing answer (before «place_num») (before «place_den»)) (before out) r (after out) ⌝ }
+    requires { let l = listableNow «place_num» «place_den» left right distance in
+        ⌜ Within l × (length (listing answer l) ≤ listingRoom) ⌝ }
+    ensures { λ r.
+        let l = listableLent «place_num» «place_den» left right distance in
+        ⌜ Printed (listing answer l) (before out) r (after out) ⌝ }
 {
-    let Listed::Written(size) = write_listing(answer, place_num, place_den, out) else {
+    let Listed::Written(size) = write_listing(
+        answer,
+        place_num,
+        place_den,
+        left,
+        right,
+        distance,
+        out,
+    ) else {
         return 0;
     };
     size
@@ -92,6 +102,7 @@ fn print_read(
         ⌜ PrintedRead counts (l .entry) (before out) r (after out) ⌝ }
 {
     let labels = counts.labels;
+    let gaps = counts.gaps;
     let mut place_num = [0i64; LABELS];
     let mut place_den = [0i64; LABELS];
     let answer = lay_out_read(
@@ -104,7 +115,15 @@ fn print_read(
         &mut place_num,
         &mut place_den,
     );
-    print(answer, &place_num[..labels], &place_den[..labels], out)
+    print(
+        answer,
+        &place_num[..labels],
+        &place_den[..labels],
+        &left[..gaps],
+        &right[..gaps],
+        &distance[..gaps],
+        out,
+    )
 }
 
 // Prints what a station prints for a text to the front of the buffer, and tells how many bytes. Any text may be lent.
@@ -125,7 +144,7 @@ pub fn run_sheet(text: &[u8], out: &mut [u8; LISTING_ROOM]) -> usize
         &mut distance,
     );
     match found {
-        Reading::Refused(refusal) => print(Answer::Refused(refusal), &[], &[], out),
+        Reading::Refused(refusal) => print(Answer::Refused(refusal), &[], &[], &[], &[], &[], out),
         Reading::Sheet(counts) => {
             print_read(counts, &wanted, &weight, &left, &right, &distance, out)
         }

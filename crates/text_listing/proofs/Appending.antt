@@ -1,6 +1,6 @@
 -- Texts put behind each other in a buffer.
 use mathlib.Core.Path.{_≡_, refl, sym, ap, _∙_}
-use mathlib.Core.List.{List, [], _∷_, _++_, append-assoc}
+use mathlib.Core.List.{List, [], _∷_, _++_, append-assoc, append-nil}
 use Prim.Native.Nat.{ℕ, _+_, _≤_, _<_}
 use native.Mathlib.Numerals.{add-one}
 use native.Mathlib.Omega.{arith}
@@ -9,8 +9,8 @@ use lib.Seq.{take-suc-set, take-at, length-take-le}
 use Rattle.text_listing.specs.Appended.{Appended}
 
 -- nothing yet
-pub nothing : (a : List ℕ) → Appended a 0 [] a 0
-nothing a = record { ends = refl; within = omega arith; front = refl }
+pub nothing : (a : List ℕ) (i : ℕ) → i ≤ length a → Appended a i [] a i
+nothing a i h = record { ends = omega arith; within = h; front = sym (append-nil (take i a)) }
 
 -- one text behind another
 pub then :

@@ -1,31 +1,67 @@
--- The listings of document 01, "Sheet text": the whole of one run, a refused sheet, and a sheet of no labels.
+-- The listings of document 01, "Sheet text": the whole of one run, a refused sheet, and a sheet of no labels; and one
+-- whose gaps are not all tight.
 use mathlib.Core.Path.{_≡_, refl}
 use mathlib.Core.List.{List, [], _∷_, _++_}
 use Prim.Native.Nat.{ℕ}
 use lib.IntN.{pos, negsuc}
 use Rattle.ground.specs.declared.Answer.the-variants.{Placed, Refused}
-use Rattle.exact.specs.Round.{rounded, roundTiesToAway, withinPlaces}
+use Rattle.exact.specs.Places.{withinPlaces}
+use Rattle.exact.specs.Round.{rounded, roundTiesToAway}
+use Rattle.exact.specs.Slack.{euclid, lowestOf, slackAnswer}
 use Rattle.text_rows.specs.Bytes.{bytes}
 use Rattle.text_rows.specs.Numeral.{digitsOf}
-use Rattle.text_listing.specs.Listing.{placeRecord, placeRecords, refusedRecord, listing}
+use Rattle.text_listing.specs.Listing.{Listable, placeRecord, placeRecords, printedSlack, slackRecord, slackRecords, refusedRecord, listing}
 
+-- the records of the document's run
 abbrev pub first-record : List ℕ
 first-record = bytes "place,0,-3,2,-2\r\n"
 
 abbrev pub second-record : List ℕ
 second-record = bytes "place,1,9,2,5\r\n"
 
--- the places of the document's run: minus 3 halves and 9 halves
-pub run-listed : listing Placed (negsuc 2 ∷ pos 9 ∷ []) (pos 2 ∷ pos 2 ∷ []) ≡ first-record ++ second-record
-unfolding placeRecords placeRecord digitsOf rounded roundTiesToAway withinPlaces
+abbrev pub slack-record : List ℕ
+slack-record = bytes "slack,0,0,1\r\n"
+
+-- its places are minus 3 halves and 9 halves, 6 apart as its gap asks
+abbrev pub run : Listable
+run = record {
+  place-num = negsuc 2 ∷ pos 9 ∷ [];
+  place-den = pos 2 ∷ pos 2 ∷ [];
+  left = 0 ∷ [];
+  right = 1 ∷ [];
+  distance = pos 6 ∷ [];
+}
+
+pub run-listed : listing Placed run ≡ first-record ++ second-record ++ slack-record
+unfolding placeRecords placeRecord slackRecords slackRecord printedSlack slackAnswer lowestOf euclid digitsOf rounded roundTiesToAway withinPlaces
 run-listed = refl
 
+-- the places for wants 0, 1, 40 and 41: two gaps are tight, and the third has 37 sixths to spare
+abbrev pub pairs : Listable
+pairs = record {
+  place-num = negsuc 7 ∷ pos 7 ∷ pos 77 ∷ pos 85 ∷ [];
+  place-den = pos 3 ∷ pos 3 ∷ pos 2 ∷ pos 2 ∷ [];
+  left = 0 ∷ 2 ∷ 1 ∷ [];
+  right = 1 ∷ 3 ∷ 2 ∷ [];
+  distance = pos 5 ∷ pos 4 ∷ pos 30 ∷ [];
+}
+
+pub pairs-listed :
+    listing Placed pairs ≡ bytes "place,0,-8,3,-3\r\nplace,1,7,3,2\r\nplace,2,77,2,39\r\nplace,3,85,2,43\r\n"
+    ++ bytes "slack,0,0,1\r\nslack,1,0,1\r\nslack,2,37,6\r\n"
+unfolding placeRecords placeRecord slackRecords slackRecord printedSlack slackAnswer lowestOf euclid digitsOf rounded roundTiesToAway withinPlaces
+pairs-listed = refl
+
+-- no labels and no gaps
+abbrev pub none : Listable
+none = record { place-num = []; place-den = []; left = []; right = []; distance = [] }
+
 -- a ring is refused with 9
-pub ring-listed : listing (Refused (record { number = 9; place = 0; ring = 2 })) [] [] ≡ bytes "refused,9,0\r\n"
+pub ring-listed : listing (Refused (record { number = 9; place = 0; ring = 2 })) none ≡ bytes "refused,9,0\r\n"
 unfolding refusedRecord digitsOf
 ring-listed = refl
 
 -- "a sheet of no labels .. prints nothing"
-pub none-listed : listing Placed [] [] ≡ []
-unfolding placeRecords
+pub none-listed : listing Placed none ≡ []
+unfolding placeRecords slackRecords
 none-listed = refl

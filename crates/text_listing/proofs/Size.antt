@@ -14,15 +14,19 @@ use mir.Syntax.{w64}
 use mir.Val.{Fits, SFits}
 use Rattle.ground.specs.declared.Refusal.{Refusal}
 use Rattle.exact.specs.declared.Rounded.the-variants.{Whole, Refused}
-use Rattle.exact.specs.Round.{onSide, nearestMagnitude, roundTiesToAway, withinPlaces, rounded, wholeOf}
+use Rattle.exact.specs.declared.Fraction.{Fraction}
+use Rattle.exact.specs.Places.{withinPlaces}
+use Rattle.exact.specs.Round.{onSide, nearestMagnitude, roundTiesToAway, rounded, wholeOf}
 use Rattle.algebra.proofs.Quotient.{natAbs-neg}
 use Rattle.ground.specs.declared.Answer.{Answer}
 use Rattle.ground.specs.declared.Answer.the-variants as answer
 use Rattle.ground.specs.Entries.{int}
-use Rattle.ground.specs.Limits.{labelsMost}
+use Rattle.ground.specs.Limits.{labelsMost, gapsMost}
 use Rattle.text_rows.specs.Numeral.{decimal, signedDecimal}
-use Rattle.text_listing.specs.Listing.{placeRoom, refusedRoom, listingRoom, placeRecord, placeRecords, refusedRecord, listing}
+use Rattle.text_listing.specs.Listing.{placeRoom, slackRoom, refusedRoom, listingRoom, placeRecord, placeRecords, refusedRecord, listing}
+use Rattle.text_listing.specs.Listing.{Listable, Within, labelsIn, gapsIn, printedSlack, slackRecord, slackRecords, sheetRecords}
 use Rattle.text_rows.proofs.Decimal.{length-decimal, length-signed, length-signed-64}
+use Rattle.text_listing.proofs.SlackSize.{FractionFits, printed-fits}
 
 -- ---- the whole unit
 
@@ -63,12 +67,15 @@ length-whole num den = length-signed 9 (wholeOf (rounded num den)) (omega (arith
 
 -- ---- records
 
--- a number of 64 bits has at most 20 digits, a label's number at most 2
+-- a number of 64 bits has at most 20 digits, a label's number at most 2, a gap's at most 3
 pub length-decimal-64 : (n : ℕ) → Fits w64 n → length (decimal n) ≤ 20
 length-decimal-64 n f = length-decimal 19 n (omega (arith, f .fits))
 
 pub length-label : (i : ℕ) → i < labelsMost → length (decimal i) ≤ 2
 length-label i h = length-decimal 1 i (omega arith)
+
+pub length-gap : (e : ℕ) → e < gapsMost → length (decimal e) ≤ 3
+length-gap e h = length-decimal 2 e (omega arith)
 
 pub length-place-record :
     (i : ℕ) (num den : ℤ) → i < labelsMost → SFits w64 num → SFits w64 den → length
@@ -97,6 +104,24 @@ length-place-records (suc n) nums dens h fn fd =
           (int dens n) (omega arith) (fn n) (fd n),
     )
 
+pub length-slack-record : (e : ℕ) (slack : Fraction) → e < gapsMost → FractionFits slack → length (slackRecord e slack) ≤ slackRoom
+unfolding slackRecord
+length-slack-record e slack h f =
+    simp length-append
+    (omega (arith, length-gap e h, length-signed-64 (slack .num) (f .0), length-signed-64 (slack .den) (f .1)))
+
+-- any numbers may be lent: a slack that is printed is of 64 bits
+pub length-slack-records : (n : ℕ) (l : Listable) → n ≤ gapsMost → length (slackRecords n l) ≤ slackRoom * n
+unfolding slackRecords
+length-slack-records zero l h = omega arith
+length-slack-records (suc n) l h =
+    omega (
+      arith,
+      length-append (slackRecords n l) (slackRecord n (printedSlack l n)),
+      length-slack-records n l (omega arith),
+      length-slack-record n (printedSlack l n) (omega arith) (printed-fits l n),
+    )
+
 pub length-refused-record :
     (r : Refusal) → Fits w64 (r .number) → Fits w64 (r .place) → length (refusedRecord r) ≤ refusedRoom
 unfolding refusedRecord
@@ -105,14 +130,26 @@ length-refused-record r fn fp =
 
 -- ---- the largest listing
 
+-- the places and the slacks of a sheet
+pub length-sheet-records :
+    (l : Listable) → labelsIn l ≤ labelsMost → gapsIn l ≤ gapsMost → AllFit (l .place-num) → AllFit (l .place-den)
+    → length (sheetRecords l) ≤ placeRoom * labelsMost + slackRoom * gapsMost
+length-sheet-records l h g fn fd =
+    omega (
+      arith,
+      length-append (placeRecords (labelsIn l) (l .place-num) (l .place-den)) (slackRecords (gapsIn l) l),
+      length-place-records (labelsIn l) (l .place-num) (l .place-den) h fn fd,
+      length-slack-records (gapsIn l) l g,
+    )
+
 -- the numbers of an answer are of 64 bits
 abbrev pub AnswerFits : Answer → Type 0
 AnswerFits answer.Placed = Unit
 AnswerFits (answer.Refused r) = Fits w64 (r .number) × Fits w64 (r .place)
 
 -- no listing is longer than its room
-pub listing-most :
-    (a : Answer) (nums dens : List ℤ) → length nums ≤ labelsMost → AnswerFits a → AllFit nums → AllFit dens → length
-    (listing a nums dens) ≤ listingRoom
-listing-most answer.Placed nums dens h f fn fd = omega (arith, length-place-records (length nums) nums dens h fn fd)
-listing-most (answer.Refused r) nums dens h f fn fd = omega (arith, length-refused-record r (f .0) (f .1))
+pub length-listing :
+    (a : Answer) (l : Listable) → Within l → AnswerFits a → AllFit (l .place-num) → AllFit (l .place-den) → length
+    (listing a l) ≤ listingRoom
+length-listing answer.Placed l w f fn fd = omega (arith, length-sheet-records l (w .labels) (w .gaps) fn fd)
+length-listing (answer.Refused r) l w f fn fd = omega (arith, length-refused-record r (f .0) (f .1))

@@ -1,13 +1,19 @@
--- The listing (document 01, "Sheet text"): "the word place, label number, numerator, denominator, whole unit",
--- or "refused, number, place"; every record ended by CRLF.
-use Prim.Native.Nat.{ℕ, zero, suc, _*_}
-use mathlib.Core.Bool.{cond}
+-- The listing (document 01, "Sheet text"): "the word place, label number, numerator, denominator, whole unit", and
+-- "after the places, one record per gap in number order: the word slack, gap number, numerator, denominator" (document
+-- 02, Item 1); or "refused, number, place"; every record ended by CRLF.
+use Prim.Native.Nat.{ℕ, zero, suc, _≤_}
+use mathlib.Core.Path.{_≡_}
+use mathlib.Core.Bool.{Bool, cond, _&&_}
 use mathlib.Core.List.{List, [], _++_}
 use lib.Dec.{eqb, ltb, leb}
 use lib.ListN.{length, drop}
-use lib.IntN.{ℤ}
+use lib.IntN.{ℤ, pos}
+use denote.Ref.{RefT, now}
 use Rattle.ground.specs.declared.Refusal.{Refusal}
+use Rattle.exact.specs.declared.Fraction.{Fraction}
+use Rattle.exact.specs.Fraction.{fractionAt, whole}
 use Rattle.exact.specs.Round.{rounded, wholeOf}
+use Rattle.exact.specs.Slack.{slackAnswer, slackGiven}
 use Rattle.ground.specs.declared.Answer.{Answer}
 use Rattle.ground.specs.declared.Answer.the-variants.{Placed, Refused}
 use Rattle.text_listing.specs.declared.Listed.{Listed}
@@ -16,22 +22,54 @@ use Rattle.text_rows.specs.Bytes.{bytes}
 use Rattle.text_rows.specs.Lines.{next, recordEnd}
 use Rattle.text_rows.specs.Numeral.{decimal, signedDecimal}
 use Rattle.ground.specs.Answers.{refusedAt}
-use Rattle.ground.specs.Entries.{int}
-use Rattle.ground.specs.Limits.{labelsMost}
+use Rattle.ground.specs.Entries.{nat, int}
+use Rattle.ground.specs.Limits.{labelsMost, gapsMost}
+use Rattle.ground.specs.Views.{Param}
 
--- bytes of a label's record and of a refused record, at most, and of a whole listing
+-- what a listing is made of: a place for each label, and the three lists of the gaps
+pub record Listable : Type 0 where
+  pub place-num : List ℤ
+  pub place-den : List ℤ
+  pub left : List ℕ
+  pub right : List ℕ
+  pub distance : List ℤ
+
+-- labels are counted by the numerators, gaps by the left labels
+abbrev pub labelsIn : Listable → ℕ
+labelsIn l = length (l .place-num)
+
+abbrev pub gapsIn : Listable → ℕ
+gapsIn l = length (l .left)
+
+-- what the writer is lent: as a `requires` sees it, and as an `ensures` does
+abbrev pub listableNow : (place-num place-den : RefT (List ℤ)) (left right : RefT (List ℕ)) (distance : RefT (List ℤ)) → Listable
+listableNow place-num place-den left right distance =
+    record { place-num = now place-num; place-den = now place-den; left = now left; right = now right; distance = now distance }
+
+abbrev pub listableLent : (place-num place-den : Param ℤ) (left right : Param ℕ) (distance : Param ℤ) → Listable
+listableLent place-num place-den left right distance =
+    listableNow (place-num .entry) (place-den .entry) (left .entry) (right .entry) (distance .entry)
+
+-- bytes of a label's record, of a gap's and of a refused record, at most; and room for a whole listing, with some to
+-- spare for the records of later requests (`length-listing` in proofs/Size)
 abbrev pub placeRoom : ℕ
 placeRoom = 64
+
+abbrev pub slackRoom : ℕ
+slackRoom = 53
 
 abbrev pub refusedRoom : ℕ
 refusedRoom = 51
 
 abbrev pub listingRoom : ℕ
-listingRoom = labelsMost * placeRoom
+listingRoom = 24576
 
--- the words place and refused
+-- the words place, slack and refused
 abbrev pub placeWord : List ℕ
 placeWord = bytes "place"
+
+abbrev pub slackWord : List ℕ
+slackWord = bytes "slack"
 
 abbrev pub refusedWord : List ℕ
 refusedWord = bytes "refused"
@@ -47,14 +85,43 @@ unfoldable pub placeRecords : ℕ → List ℤ → List ℤ → List ℕ
 placeRecords zero nums dens = []
 placeRecords (suc n) nums dens = placeRecords n nums dens ++ placeRecord n (int nums n) (int dens n)
 
+-- the place of a label
+abbrev pub placeIn : Listable → ℕ → Fraction
+placeIn l i = fractionAt (l .place-num) (l .place-den) i
+
+-- whether an end of a gap is a label
+abbrev pub isLabel : Listable → ℕ → Bool
+isLabel l i = ltb i (labelsIn l)
+
+-- the slack of a gap; 0/1 where an end is no label, and where the entry over single fractions refuses it
+unfoldable pub printedSlack : Listable → ℕ → Fraction
+printedSlack l e =
+    cond (isLabel l (nat (l .left) e) && isLabel l (nat (l .right) e))
+    (slackGiven (slackAnswer (placeIn l (nat (l .left) e)) (placeIn l (nat (l .right) e)) (int (l .distance) e)))
+    (whole (pos 0))
+
+-- "the word slack, gap number, numerator, denominator"
+unfoldable pub slackRecord : ℕ → Fraction → List ℕ
+slackRecord e slack =
+    slackWord ++ (next (decimal e) ++ (next (signedDecimal (slack .num)) ++ (next (signedDecimal (slack .den)) ++ recordEnd)))
+
+-- "one record per gap in number order": those of the first n gaps
+unfoldable pub slackRecords : ℕ → Listable → List ℕ
+slackRecords zero l = []
+slackRecords (suc n) l = slackRecords n l ++ slackRecord n (printedSlack l n)
+
+-- the records of a sheet: its places, and "after the places" its slacks
+abbrev pub sheetRecords : Listable → List ℕ
+sheetRecords l = placeRecords (labelsIn l) (l .place-num) (l .place-den) ++ slackRecords (gapsIn l) l
+
 -- "A refused sheet prints only: refused, number, place"
 unfoldable pub refusedRecord : Refusal → List ℕ
 refusedRecord r = refusedWord ++ (next (decimal (r .number)) ++ (next (decimal (r .place)) ++ recordEnd))
 
--- the listing of an answer, over the places of its labels
-abbrev pub listing : Answer → List ℤ → List ℤ → List ℕ
-listing Placed nums dens = placeRecords (length nums) nums dens
-listing (Refused r) nums dens = refusedRecord r
+-- the listing of an answer
+abbrev pub listing : Answer → Listable → List ℕ
+listing Placed l = sheetRecords l
+listing (Refused r) l = refusedRecord r
 
 -- document 01's number for each case of the writer's answer and its place, and the count of bytes written:
 -- number and place are 0 for a listing that is written, the count is 0 for one that is refused
@@ -92,9 +159,24 @@ laid text b =
     (listedAs (listed.Written (length text)) (text ++ drop (length text) b))
     (notListed 4 b)
 
--- labels are counted by the numerators: 1 for too many, 3 if the denominators are not as many
-unfoldable pub listedIn : Answer → List ℤ → List ℤ → List ℕ → Listing
-listedIn (Refused r) nums dens b = laid (refusedRecord r) b
-listedIn Placed nums dens b =
-    cond (ltb labelsMost (length nums)) (notListed 1 b)
-    (cond (eqb (length dens) (length nums)) (laid (placeRecords (length nums) nums dens) b) (notListed 3 b))
+-- whether lists that belong together are as many
+abbrev pub even : Listable → Bool
+even l =
+    eqb (length (l .place-den)) (labelsIn l)
+    && eqb (length (l .right)) (gapsIn l) && eqb (length (l .distance)) (gapsIn l)
+
+-- a sheet that is listed: within both limits, its lists as many
+pub record Within (l : Listable) : Type 0 where
+  pub labels : labelsIn l ≤ labelsMost
+  pub gaps : gapsIn l ≤ gapsMost
+  pub dens : length (l .place-den) ≡ labelsIn l
+  pub right : length (l .right) ≡ gapsIn l
+  pub distance : length (l .distance) ≡ gapsIn l
+
+-- for a placed sheet 1 for too many labels, then 2 for too many gaps, then 3 for lists that are not as many; 4 for either
+unfoldable pub listedIn : Answer → Listable → List ℕ → Listing
+listedIn (Refused r) l b = laid (refusedRecord r) b
+listedIn Placed l b =
+    cond (ltb labelsMost (labelsIn l)) (notListed 1 b)
+    (cond (ltb gapsMost (gapsIn l)) (notListed 2 b)
+    (cond (even l) (laid (sheetRecords l) b) (notListed 3 b)))

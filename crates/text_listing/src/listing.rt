@@ -1,4 +1,4 @@
-// The listing of an answer: a record for each label, or the refused record.
+// The listing of an answer: a record for each label and for each gap, or the refused record.
 use crate::LISTING_ROOM;
 use crate::Listed;
 use crate::REFUSED_ROOM;
@@ -6,25 +6,28 @@ use crate::digits::put_byte;
 use crate::digits::put_number_field;
 use crate::digits::put_signed_field;
 use crate::digits::put_word;
+use crate::slacks::put_slacks;
 use exact::round::round;
 use ground::Answer;
 use ground::Label;
 use ground::Refusal;
+use ground::limits::GAPS;
 use ground::limits::LABELS;
 ghost use mathlib.Core.Path.{_≡_};
-ghost use Prim.Native.Nat.{_+_, _<_, _≤_};
+ghost use Prim.Native.Nat.{_+_, _*_, _<_, _≤_};
 ghost use lib.ListN.{length};
 ghost use Rattle.exact.specs.Round.{rounded, wholeOf};
 ghost use Rattle.ground.specs.declared.Answer.the-variants.{Placed};
 ghost use Rattle.text_listing.specs.Appended.{Appended};
 ghost use Rattle.text_rows.specs.Lines.{recordEnd};
 ghost use Rattle.text_listing.specs.Listing.{placeRoom, refusedRoom, listingRoom, laid, listedAs, listedIn, refusal};
-ghost use Rattle.text_listing.specs.Listing.{placeRecord, placeRecords, refusedRecord};
+ghost use Rattle.text_listing.specs.Listing.{Within, even, listableLent, listableNow};
+ghost use Rattle.text_listing.specs.Listing.{placeRecord, placeRecords, refusedRecord, sheetRecords};
 ghost use Rattle.ground.specs.Limits.{labelsMost};
 ghost use Rattle.ground.specs.Views.{after, before};
 
 // Puts the end of a record.
-fn put_end(buf: &mut [u8], at: usize) -> usize
+pub(crate) fn put_end(buf: &mut [u8], at: usize) -> usize
     requires { ⌜ at + length recordEnd ≤ length (now buf) ⌝ }
     ensures { λ r. ⌜ Appended (before buf) at recordEnd (after buf) r ⌝ }
 {
@@ -57,11 +60,12 @@ fn put_place(buf: &mut [u8], at: usize, label: Label, num: i64, den: i64) -> usi
 fn put_places(buf: &mut [u8], place_num: &[i64], place_den: &[i64]) -> usize
     requires { ⌜ (length (now «place_num») ≤ labelsMost)
         × (length (now «place_den») ≡ length (now «place_num»))
-        × (listingRoom ≤ length (now buf)) ⌝ }
+        × (labelsMost * placeRoom ≤ length (now buf)) ⌝ }
     ensures { λ r.
         let nums = before «place_num» in
         let dens = before «place_den» in
-        ⌜ Appended (before buf) 0 (placeRecords (length nums) nums dens) (after buf) r ⌝ }
+        ⌜ Appended (before buf) 0 (placeRecords (length nums) nums dens) (after buf) r
+        × (r ≤ labelsMost * placeRoom) ⌝ }
 {
     let mut at: usize = 0;
     let mut label: usize = 0;
@@ -105,20 +109,70 @@ fn lay(text: &[u8], out: &mut [u8]) -> Listed
     Listed::Written(end)
 }
 
-// The listing of a placed sheet.
-fn list_places(place_num: &[i64], place_den: &[i64], out: &mut [u8]) -> Listed
+// Puts the records of a sheet: its places, then its slacks.
+fn put_sheet(
+    buf: &mut [u8],
+    place_num: &[i64],
+    place_den: &[i64],
+    left: &[usize],
+    right: &[usize],
+    distance: &[i64],
+) -> usize
+    requires { let l = listableNow «place_num» «place_den» left right distance in
+        ⌜ Within l × (listingRoom ≤ length (now buf)) ⌝ }
     ensures { λ r.
-        let listed = listedIn Placed (before «place_num») (before «place_den») (before out) in
-        ⌜ listedAs r (after out) ≡ listed ⌝ }
+        let l = listableLent «place_num» «place_den» left right distance in
+        ⌜ Appended (before buf) 0 (sheetRecords l) (after buf) r ⌝ }
+{
+    let end = put_places(buf, place_num, place_den);
+    put_slacks(buf, end, place_num, place_den, left, right, distance)
+}
+
+// Whether lists that belong together are as many.
+fn is_even(
+    place_num: &[i64],
+    place_den: &[i64],
+    left: &[usize],
+    right: &[usize],
+    distance: &[i64],
+) -> bool
+    ensures { λ r.
+        let l = listableLent «place_num» «place_den» left right distance in
+        ⌜ r ≡ even l ⌝ }
+{
+    if place_den.len() != place_num.len() {
+        return false;
+    }
+    if right.len() != left.len() {
+        return false;
+    }
+    distance.len() == left.len()
+}
+
+// The listing of a placed sheet.
+fn list_sheet(
+    place_num: &[i64],
+    place_den: &[i64],
+    left: &[usize],
+    right: &[usize],
+    distance: &[i64],
+    out: &mut [u8],
+) -> Listed
+    ensures { λ r.
+        let l = listableLent «place_num» «place_den» left right distance in
+        ⌜ listedAs r (after out) ≡ listedIn Placed l (before out) ⌝ }
 {
     if LABELS < place_num.len() {
         return refused(1);
     }
-    if place_den.len() != place_num.len() {
+    if GAPS < left.len() {
+        return refused(2);
+    }
+    if !is_even(place_num, place_den, left, right, distance) {
         return refused(3);
     }
     let mut text = [0u8; LISTING_ROOM];
-    let end = put_places(&mut text, place_num, place_den);
+    let end = put_sheet(&mut text, place_num, place_den, left, right, distance);
     lay(&text[..end], out)
 }
 
@@ -132,15 +186,24 @@ fn list_refused(refusal: Refusal, out: &mut [u8]) -> Listed
 }
 
 // Writes the listing of an answer to the front of the buffer.
-// 1: more than 48 labels. 3: the lists differ in length. 4: the buffer is too short.
-pub fn write_listing(answer: Answer, place_num: &[i64], place_den: &[i64], out: &mut [u8]) -> Listed
+// For a placed sheet 1: more than 48 labels. 2: more than 192 gaps. 3: lists that belong together differ in length.
+// For any answer 4: the buffer is too short.
+pub fn write_listing(
+    answer: Answer,
+    place_num: &[i64],
+    place_den: &[i64],
+    left: &[usize],
+    right: &[usize],
+    distance: &[i64],
+    out: &mut [u8],
+) -> Listed
     ensures { λ r.
-        let listed = listedIn answer (before «place_num») (before «place_den») (before out) in
-        ⌜ (r ≡ listed .answer)
-        × (after out ≡ listed .buffer) ⌝ }
+        let l = listableLent «place_num» «place_den» left right distance in
+        ⌜ (r ≡ listedIn answer l (before out) .answer)
+        × (after out ≡ listedIn answer l (before out) .buffer) ⌝ }
 {
     match answer {
-        Answer::Placed => list_places(place_num, place_den, out),
+        Answer::Placed => list_sheet(place_num, place_den, left, right, distance, out),
         Answer::Refused(refusal) => list_refused(refusal, out),
     }
 }

@@ -51,7 +51,12 @@ fn runs() {
     let run = b"label,0,0,1\r\nlabel,1,3,1\r\ngap,0,1,6\r\n";
     assert_eq!(
         printed(&program, run),
-        "place,0,-3,2,-2\r\nplace,1,9,2,5\r\n"
+        "place,0,-3,2,-2\r\nplace,1,9,2,5\r\nslack,0,0,1\r\n"
+    );
+    let spare = b"label,0,0,\nlabel,1,9,\ngap,0,1,6\ngap,1,0,-9";
+    assert_eq!(
+        printed(&program, spare),
+        "place,0,0,1,0\r\nplace,1,9,1,9\r\nslack,0,3,1\r\nslack,1,0,1\r\n"
     );
     let ring = b"label,0,0,\nlabel,1,0,\ngap,0,1,5\ngap,1,0,-4\n";
     assert_eq!(printed(&program, ring), "refused,9,0\r\n");

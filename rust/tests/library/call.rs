@@ -1,11 +1,13 @@
 //! A layout call with everything that is lent, and what is checked of it.
-use crate::conditions::{confirm, confirm_marks, confirm_ring};
+use crate::conditions::{
+    confirm, confirm_marks, confirm_none_to_spare, confirm_ring, confirm_slacks,
+};
 use crate::fraction::{gcd, Fraction};
 use crate::random::Random;
 use crate::refusals;
 use crate::sheet::Sheet;
 use crate::solver;
-use dirmoog::{lay_out, ring_part, Answer, Refusal, Room};
+use dirmoog::{lay_out, ring_part, write_listing, Answer, Listable, Listed, Refusal, Room};
 
 /// What is lent to write, and the carried record. The lists may be of any lengths and hold anything.
 #[derive(Clone, Debug, Default, PartialEq, Eq)]
@@ -78,6 +80,32 @@ impl Lent {
         lay_out(&sheet, &mut room)
     }
 
+    /// What is listed of an accepted sheet: the places that were written, and the sheet's gaps.
+    pub fn listable<'a>(&'a self, sheet: &'a Sheet) -> Listable<'a> {
+        Listable {
+            place_num: &self.place_num[..sheet.labels()],
+            place_den: &self.place_den[..sheet.labels()],
+            left: &sheet.left,
+            right: &sheet.right,
+            distance: &sheet.distance,
+        }
+    }
+
+    /// The slacks that the library lists of an accepted sheet, which must be fractions in lowest terms.
+    pub fn slacks(&self, sheet: &Sheet) -> Vec<Fraction> {
+        let mut text = [0; 24_576];
+        let listed = write_listing(Answer::Placed, &self.listable(sheet), &mut text);
+        let Listed::Written(bytes) = listed else {
+            panic!("{listed:?}");
+        };
+        let text = std::str::from_utf8(&text[..bytes as usize]).expect("a listing");
+        let records: Vec<&str> = text.split_terminator("\r\n").collect();
+        assert_eq!(records.len(), sheet.labels() + sheet.gaps());
+        let slacks = records[sheet.labels()..].iter().enumerate();
+        let (nums, dens): (Vec<_>, Vec<_>) = slacks.map(|(e, record)| slack_of(e, record)).unzip();
+        fractions(&nums, &dens)
+    }
+
     /// The places that were written, which must be fractions in lowest terms.
     pub fn places(&self, labels: usize) -> Vec<Fraction> {
         fractions(&self.place_num[..labels], &self.place_den[..labels])
@@ -109,6 +137,15 @@ fn fractions(nums: &[i64], dens: &[i64]) -> Vec<Fraction> {
             }
         })
         .collect()
+}
+
+/// Numerator and denominator in the record of a gap.
+fn slack_of(gap: usize, record: &str) -> (i64, i64) {
+    record
+        .strip_prefix(&format!("slack,{gap},"))
+        .and_then(|slack| slack.split_once(','))
+        .and_then(|(num, den)| Some((num.parse().ok()?, den.parse().ok()?)))
+        .unwrap_or_else(|| panic!("{record} is no slack of gap {gap}"))
 }
 
 /// A refusal by the table, which tells no ring.
@@ -143,14 +180,17 @@ pub fn check_call(sheet: &Sheet, before: &Lent) -> Outcome {
     }
 }
 
-/// The places are the solver's; multipliers and marks meet their conditions; entries beyond and the
-/// ring buffer stay.
+/// The places are the solver's; multipliers, marks and the slacks that are listed meet their
+/// conditions; entries beyond and the ring buffer stay.
 fn check_placed(sheet: &Sheet, before: &Lent, after: &Lent, places: &[Fraction]) {
     let (labels, gaps) = (sheet.labels(), sheet.gaps());
     let multipliers = after.multipliers(gaps);
     assert_eq!(after.places(labels), places);
     confirm(sheet, places, &multipliers).expect("multipliers");
     confirm_marks(sheet, places, &multipliers, &after.carried).expect("marks");
+    let slacks = after.slacks(sheet);
+    confirm_slacks(sheet, places, &slacks).expect("slacks");
+    confirm_none_to_spare(&slacks, &multipliers, &after.carried).expect("slacks of tight gaps");
     assert_eq!(after.carried.len(), before.carried.len());
     assert_eq!(after.place_num[labels..], before.place_num[labels..]);
     assert_eq!(after.place_den[labels..], before.place_den[labels..]);

@@ -1,5 +1,5 @@
-//! The conditions of document 01, "Least move", "What a station lends" and refusal 9, each as a
-//! check of its own.
+//! The conditions of document 01, "Least move", "What a station lends" and refusal 9, and of document
+//! 02, Item 1, each as a check of its own.
 use crate::fraction::{Fraction, ZERO};
 use crate::sheet::Sheet;
 
@@ -63,6 +63,40 @@ pub fn confirm_marks(
         }
         for g in group.iter_mut().filter(|g| **g == from) {
             *g = to;
+        }
+    }
+    Ok(())
+}
+
+/// That these are the slacks of the gaps, and none is negative.
+pub fn confirm_slacks(
+    sheet: &Sheet,
+    places: &[Fraction],
+    slacks: &[Fraction],
+) -> Result<(), String> {
+    for (e, (gap, &slack)) in sheet.all_gaps().iter().zip(slacks).enumerate() {
+        if slack < ZERO {
+            return Err(format!("the slack of gap {e} is negative"));
+        }
+        if slack != gap.slack(places) {
+            return Err(format!("{slack:?} is not the slack of gap {e}"));
+        }
+    }
+    Ok(())
+}
+
+/// That the slack is 0/1 where a gap has a multiplier, and where it is marked.
+pub fn confirm_none_to_spare(
+    slacks: &[Fraction],
+    multipliers: &[Fraction],
+    carried: &[u8],
+) -> Result<(), String> {
+    for (e, &slack) in slacks.iter().enumerate() {
+        if slack != ZERO && multipliers[e] != ZERO {
+            return Err(format!("gap {e} has a multiplier and the slack {slack:?}"));
+        }
+        if slack != ZERO && carried[e] == 1 {
+            return Err(format!("gap {e} is marked and has the slack {slack:?}"));
         }
     }
     Ok(())

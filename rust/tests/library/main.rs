@@ -1,5 +1,5 @@
-//! The library beside parts that were written apart from it, from document 01: a solver of another
-//! method, the refusal table, a reader of the text and a writer of the listing.
+//! The library beside parts that were written apart from it, from documents 01 and 02: a solver of
+//! another method, the refusal table, a reader of the text and a writer of the listing.
 
 // the parts
 mod call;
@@ -20,6 +20,7 @@ mod hard;
 mod laws;
 mod raw_calls;
 mod rounding;
+mod slack;
 mod stack;
 mod station;
 mod text;

@@ -70,6 +70,26 @@ fn round_tells_what_fits() {
     }
 }
 
+#[test]
+fn slack_tells_what_fits() {
+    // 1/2, 1/3 and 0; a place of 1/0; a distance of 20,001
+    for (den, distance, number, slack) in [
+        (2, 0, 0, [-1, 6]),
+        (0, 0, 12, [0, 1]),
+        (2, 20_001, 8, [0, 1]),
+    ] {
+        for entries in 0..4 {
+            let mut out = vec![77; entries];
+            let mut expected = out.clone();
+            expected.iter_mut().zip(slack).for_each(|(e, s)| *e = s);
+            // SAFETY: the pointer is that of a list of the length given.
+            let answer =
+                unsafe { raw::dirmoog_slack(1, den, 1, 3, distance, out.as_mut_ptr(), entries) };
+            assert_eq!((answer, out), (number, expected));
+        }
+    }
+}
+
 /// Reads a text into lists of one entry each.
 fn read(text: &[u8], out: &mut [u64]) -> u64 {
     let (mut labels, mut ends, mut distance) = ([[0i64; 1]; 2], [[0u64; 1]; 2], [0i64; 1]);
@@ -109,27 +129,53 @@ fn read_tells_what_fits() {
     }
 }
 
+/// Lists a label at 1/2 with a gap to itself.
+fn listing(number: u64, place: u64, text: &mut [u8], out: &mut [u64]) -> u64 {
+    let (num, den, end, distance) = ([1i64], [2i64], [0u64], [-4i64]);
+    // SAFETY: each pointer is that of a list of the length given.
+    unsafe {
+        raw::dirmoog_listing(
+            number,
+            place,
+            num.as_ptr(),
+            1,
+            den.as_ptr(),
+            1,
+            end.as_ptr(),
+            1,
+            end.as_ptr(),
+            1,
+            distance.as_ptr(),
+            1,
+            text.as_mut_ptr(),
+            text.len(),
+            out.as_mut_ptr(),
+            out.len(),
+        )
+    }
+}
+
 #[test]
 fn listing_tells_what_fits() {
-    let (nums, dens) = ([1i64], [2i64]);
-    // placed whatever the place is, a refusal, and a buffer that is too short
-    for (number, place, room, told) in
-        [(0, 5, 30, (0, 15)), (9, 0, 30, (0, 13)), (9, 0, 12, (4, 0))]
-    {
+    let (placed, ring) = (b"place,0,1,2,1\r\nslack,0,4,1\r\n", b"refused,9,0\r\n");
+    // placed whatever the place is, a refusal, and buffers that are too short
+    for (number, place, room, told, text) in [
+        (0, 5, 30, (0, 28), &placed[..]),
+        (9, 0, 30, (0, 13), &ring[..]),
+        (0, 5, 27, (4, 0), b""),
+        (9, 0, 12, (4, 0), b""),
+    ] {
         for entries in 0..3 {
-            let (mut text, mut out) = (vec![0u8; room], vec![77u64; entries]);
+            let (mut written, mut out) = (vec![77u8; room], vec![77u64; entries]);
             let mut expected = out.clone();
             expected
                 .iter_mut()
                 .take(1)
                 .for_each(|first| *first = told.1);
-            let (num, den) = (nums.as_ptr(), dens.as_ptr());
-            // SAFETY: each pointer is that of a list of the length given.
-            let answer = unsafe {
-                let (text, out) = (text.as_mut_ptr(), out.as_mut_ptr());
-                raw::dirmoog_listing(number, place, num, 1, den, 1, text, room, out, entries)
-            };
+            let answer = listing(number, place, &mut written, &mut out);
             assert_eq!((answer, out), (told.0, expected));
+            assert_eq!(written[..text.len()], *text);
+            assert!(written[text.len()..].iter().all(|&byte| byte == 77));
         }
     }
 }

@@ -4,7 +4,11 @@ use crate::call::{refused_at, Lent};
 use crate::generate::{sheet, KINDS};
 use crate::generated::Case;
 use crate::random::Random;
-use dirmoog::{read_sheet, round, write_listing, Counts, Listed, Lists, Reading, Rounded};
+use crate::text::writer::listing;
+use dirmoog::{
+    read_sheet, round, slack, write_listing, Answer, Counts, Fraction, Listable, Listed,
+};
+use dirmoog::{Lists, Reading, Rounded, SlackAnswer};
 use std::thread::{scope, Builder};
 
 const STACK: usize = 32 * 1024;
@@ -51,10 +55,37 @@ fn texts() {
     let counts = Counts { labels, gaps };
     let reading = on_little(|| read_sheet(text.as_bytes(), &mut lists));
     assert_eq!(reading, Reading::Sheet(counts));
-    // the most digits
-    let mut out = [0; 64];
+}
+
+/// The most labels and gaps, the most digits, and slacks to be taken.
+#[test]
+fn listings() {
+    let (mut place_num, mut place_den) = ([i64::MIN; 48], [i64::MIN; 48]);
+    (place_num[0], place_den[0]) = (-5_472_000_000, 4_799);
+    (place_num[47], place_den[47]) = (5_472_000_000, 4_800);
+    let lists = Listable {
+        place_num: &place_num,
+        place_den: &place_den,
+        left: &[0; 192],
+        right: &[47; 192],
+        distance: &[-20_000; 192],
+    };
+    let expected = listing(Answer::Placed, &lists);
+    let mut text = vec![0; expected.len()];
+    let listed = on_little(|| write_listing(Answer::Placed, &lists, &mut text));
+    assert_eq!(listed, Listed::Written(expected.len() as u64));
+    assert_eq!(text, expected);
+    let mut text = [0; 64];
     let answer = refused_at(u64::MAX, u64::MAX);
-    let listed = on_little(|| write_listing(answer, &[], &[], &mut out));
+    let listed = on_little(|| write_listing(answer, &lists, &mut text));
     assert_eq!(listed, Listed::Written(51));
+}
+
+#[test]
+fn single_fractions() {
     assert_eq!(on_little(|| round(-3, 2)), Rounded::Whole(-2));
+    let place = |num, den| Fraction { num, den };
+    let (left, right) = (place(-5_472_000_000, 4_799), place(5_472_000_000, 4_800));
+    let answer = on_little(|| slack(left, right, -20_000));
+    assert_eq!(answer, SlackAnswer::Slack(place(11_038_840_000, 4_799)));
 }

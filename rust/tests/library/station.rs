@@ -10,7 +10,7 @@ use std::thread::sleep;
 use std::time::Duration;
 
 const SHEET: &[u8] = b"label,0,0,1\r\nlabel,1,3,1\r\ngap,0,1,6\r\n";
-const LISTING: &str = "place,0,-3,2,-2\r\nplace,1,9,2,5\r\n";
+const LISTING: &str = "place,0,-3,2,-2\r\nplace,1,9,2,5\r\nslack,0,0,1\r\n";
 const UNREAD: &str = "station: the sheet could not be read\n";
 const UNWRITTEN: &str = "station: the listing could not be written\n";
 

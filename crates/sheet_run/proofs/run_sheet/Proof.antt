@@ -41,13 +41,21 @@ slice-aggregate-print c = search needs
 slice-aggregate-print-2 : tie.Need-slice-aggregate-print-2
 slice-aggregate-print-2 c = search needs
 
+slice-aggregate-print-3 : tie.Need-slice-aggregate-print-3
+slice-aggregate-print-3 c = search needs
+
+slice-aggregate-print-4 : tie.Need-slice-aggregate-print-4
+slice-aggregate-print-4 c = search needs
+
+slice-aggregate-print-5 : tie.Need-slice-aggregate-print-5
+slice-aggregate-print-5 c = search needs
+
 print-requires : tie.Need-print-requires
 print-requires c κs =
-    let d = c .before .before .before .before .before .before .before .before .before .before .before in (
-      omega arith,
-      refl,
+    let d = c .before .before .before .before .before .before .before .before .before .before .before .before .before .before in (
+      record { labels = omega arith; gaps = omega arith; dens = refl; right = refl; distance = refl },
       refusal-most (now (d .before .before .before .before .before .before .before .args .text)) (d .read-sheet .result)
-          (read-into d) (d .read-sheet .ensures) _ (c .before .before .before .before .found .given .1),
+          (read-into d) (d .read-sheet .ensures) _ (c .before .before .before .before .before .before .before .found .given .1),
     )
 
 enum-known-found-2 : tie.Need-enum-known-found-2
@@ -85,10 +93,10 @@ print-read-requires c κs =
 
 returns : tie.Need-returns
 returns c =
-    let d = c .before .before .before .before .before .before .before .before .before .before .before .before in
+    let d = c .before .before .before .before .before .before .before .before .before .before .before .before .before .before .before in
     let s = d .before .before .before .before .before .before .before in
     run-refused (now (s .args .text)) (d .read-sheet .result) (read-into d) (d .read-sheet .ensures) _
-    (c .before .before .before .before .before .found .given .1) (now (s .args .out)) _ _ (c .print .ensures)
+    (c .before .before .before .before .before .before .before .before .found .given .1) (now (s .args .out)) _ _ (c .print .ensures)
 
 returns-2 : tie.Need-returns-2
 returns-2 c =
@@ -110,6 +118,9 @@ run-sheet-spec =
     enum-known-found
     slice-aggregate-print
     slice-aggregate-print-2
+    slice-aggregate-print-3
+    slice-aggregate-print-4
+    slice-aggregate-print-5
     print-requires
     enum-known-found-2
     slice-aggregate-print-read

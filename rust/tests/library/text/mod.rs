@@ -4,4 +4,4 @@ mod read;
 pub mod reader;
 mod run;
 mod typed;
-mod writer;
+pub mod writer;

@@ -3,14 +3,15 @@ use super::read::read_into;
 use super::reader::read;
 use super::typed::{damage, typed};
 use super::writer::listing;
-use crate::call::Lent;
+use crate::call::{refused_at, Lent};
 use crate::generate::{sheet, KINDS};
 use crate::generated::Case;
 use crate::random::Random;
 use crate::refusals;
 use crate::sheet::Sheet;
 use crate::solver;
-use dirmoog::{write_listing, Answer, Listed, Reading, Refusal};
+use dirmoog::{write_listing, Answer, Listable, Listed, Reading};
+use std::path::Path;
 
 /// Lists that have room for every sheet.
 fn roomy() -> Sheet {
@@ -23,11 +24,11 @@ fn roomy() -> Sheet {
     }
 }
 
-/// The answer to a text by the library, with its places.
-fn answered(text: &[u8]) -> (Answer, Lent) {
+/// The answer to a text by the library, with its gaps and its places.
+fn answered(text: &[u8]) -> (Answer, Sheet, Lent) {
     let mut lists = roomy();
     match read_into(text, &mut lists) {
-        Reading::Refused(refusal) => (Answer::Refused(refusal), Lent::default()),
+        Reading::Refused(refusal) => (Answer::Refused(refusal), Sheet::default(), Lent::default()),
         Reading::Sheet(counts) => {
             let (labels, gaps) = (counts.labels as usize, counts.gaps as usize);
             lists.wanted.truncate(labels);
@@ -36,16 +37,16 @@ fn answered(text: &[u8]) -> (Answer, Lent) {
             lists.right.truncate(gaps);
             lists.distance.truncate(gaps);
             let mut lent = Lent::zeros(labels, gaps);
-            (lent.call(&lists), lent)
+            (lent.call(&lists), lists, lent)
         }
     }
 }
 
 /// What the library prints for a text.
 fn printed(text: &[u8]) -> Vec<u8> {
-    let (answer, lent) = answered(text);
-    let mut out = vec![0; 2_048];
-    let listed = write_listing(answer, &lent.place_num, &lent.place_den, &mut out);
+    let (answer, sheet, lent) = answered(text);
+    let mut out = vec![0; 24_576];
+    let listed = write_listing(answer, &lent.listable(&sheet), &mut out);
     let Listed::Written(bytes) = listed else {
         panic!("{listed:?}");
     };
@@ -54,16 +55,7 @@ fn printed(text: &[u8]) -> Vec<u8> {
 }
 
 fn refused(number: u64, place: u64) -> Vec<u8> {
-    let ring = 0;
-    listing(
-        Answer::Refused(Refusal {
-            number,
-            place,
-            ring,
-        }),
-        &[],
-        &[],
-    )
+    listing(refused_at(number, place), &Listable::default())
 }
 
 /// What the parts beside the library print for a text.
@@ -72,26 +64,58 @@ fn expected(text: &[u8]) -> Vec<u8> {
         Ok(sheet) => sheet,
         Err((number, place)) => return refused(number, place),
     };
-    let lent = Lent::zeros(sheet.labels(), sheet.gaps());
+    let mut lent = Lent::zeros(sheet.labels(), sheet.gaps());
     if let Some((number, place)) = refusals::table(&sheet, &lent) {
         return refused(number, place);
     }
     let Some(places) = solver::solve(&sheet) else {
         return refused(9, 0);
     };
-    let nums: Vec<_> = places.iter().map(|p| p.num as i64).collect();
-    let dens: Vec<_> = places.iter().map(|p| p.den as i64).collect();
-    listing(Answer::Placed, &nums, &dens)
+    lent.place_num = places.iter().map(|p| p.num as i64).collect();
+    lent.place_den = places.iter().map(|p| p.den as i64).collect();
+    listing(Answer::Placed, &lent.listable(&sheet))
+}
+
+/// A text and what both sides print for it.
+fn prints(text: &[u8], records: &str) {
+    assert_eq!(String::from_utf8_lossy(&printed(text)), records);
+    assert_eq!(String::from_utf8_lossy(&expected(text)), records);
 }
 
 #[test]
 fn run_of_document_01() {
-    let text = b"label,0,0,1\r\nlabel,1,3,1\r\ngap,0,1,6\r\n";
-    let places = b"place,0,-3,2,-2\r\nplace,1,9,2,5\r\n";
-    assert_eq!(printed(text), places);
-    assert_eq!(expected(text), places);
-    assert_eq!(printed(b"label,0,0,1\r\ngap,0,0,1\r\n"), b"refused,9,0\r\n");
-    assert_eq!(printed(b""), b"");
+    prints(
+        b"label,0,0,1\r\nlabel,1,3,1\r\ngap,0,1,6\r\n",
+        "place,0,-3,2,-2\r\nplace,1,9,2,5\r\nslack,0,0,1\r\n",
+    );
+    prints(b"label,0,0,1\r\ngap,0,0,1\r\n", "refused,9,0\r\n");
+    prints(
+        b"label,0,0,1\r\ngap,0,0,-1\r\n",
+        "place,0,0,1,0\r\nslack,0,1,1\r\n",
+    );
+    prints(b"", "");
+}
+
+/// P6: two gaps with room to spare, and one that holds the labels apart.
+#[test]
+fn slacks_of_p6() {
+    prints(
+        b"label,0,0,1\nlabel,1,0,1\nlabel,2,0,1\ngap,0,1,2\ngap,1,2,2\ngap,0,2,10\n",
+        "place,0,-5,1,-5\r\nplace,1,0,1,0\r\nplace,2,5,1,5\r\n\
+         slack,0,3,1\r\nslack,1,3,1\r\nslack,2,0,1\r\n",
+    );
+}
+
+/// Two pairs that touch, and how far they are from each other.
+#[test]
+fn slacks_of_nearly_touching() {
+    let sheets = Path::new(env!("CARGO_MANIFEST_DIR")).join("../sheets");
+    let text = std::fs::read(sheets.join("nearly-touching.csv")).expect("the sheet");
+    prints(
+        &text,
+        "place,0,-8,3,-3\r\nplace,1,7,3,2\r\nplace,2,77,2,39\r\nplace,3,85,2,43\r\n\
+         slack,0,0,1\r\nslack,1,0,1\r\nslack,2,37,6\r\n",
+    );
 }
 
 #[test]

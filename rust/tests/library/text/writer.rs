@@ -1,19 +1,16 @@
-//! A second writer of the listing, written from document 01 apart from the library's.
-use crate::rounding::expected;
-use dirmoog::{Answer, Rounded};
+//! A second writer of the listing, written from document 01 and document 02, Item 1, apart from the library's.
+use crate::rounding;
+use crate::slack;
+use dirmoog::{Answer, Fraction, Listable, Rounded, SlackAnswer};
 
-/// The listing of an answer over its places.
-pub fn listing(answer: Answer, place_num: &[i64], place_den: &[i64]) -> Vec<u8> {
+/// The listing of an answer over its places and gaps.
+pub fn listing(answer: Answer, lists: &Listable<'_>) -> Vec<u8> {
     let records: Vec<String> = match answer {
-        Answer::Placed => place_num
-            .iter()
-            .zip(place_den)
-            .enumerate()
-            .map(|(label, (num, den))| {
-                let whole = whole_unit(*num, *den);
-                format!("place,{label},{num},{den},{whole}\r\n")
-            })
-            .collect(),
+        Answer::Placed => {
+            let places = (0..lists.place_num.len()).filter_map(|label| place_record(lists, label));
+            let slacks = (0..lists.left.len()).filter_map(|gap| slack_record(lists, gap));
+            places.chain(slacks).collect()
+        }
         Answer::Refused(refusal) => {
             vec![format!("refused,{},{}\r\n", refusal.number, refusal.place)]
         }
@@ -21,10 +18,43 @@ pub fn listing(answer: Answer, place_num: &[i64], place_den: &[i64]) -> Vec<u8> 
     records.concat().into_bytes()
 }
 
+/// The place of a label, if the lists have it.
+fn place(lists: &Listable<'_>, label: usize) -> Option<Fraction> {
+    Some(Fraction {
+        num: *lists.place_num.get(label)?,
+        den: *lists.place_den.get(label)?,
+    })
+}
+
+fn place_record(lists: &Listable<'_>, label: usize) -> Option<String> {
+    let Fraction { num, den } = place(lists, label)?;
+    let whole = whole_unit(num, den);
+    Some(format!("place,{label},{num},{den},{whole}\r\n"))
+}
+
 /// The whole unit of a fraction; 0 for one that rounding refuses.
 fn whole_unit(num: i64, den: i64) -> i64 {
-    match expected(num, den) {
+    match rounding::expected(num, den) {
         Rounded::Whole(whole) => whole,
         Rounded::Refused(_) => 0,
+    }
+}
+
+fn slack_record(lists: &Listable<'_>, gap: usize) -> Option<String> {
+    let (left, right) = (*lists.left.get(gap)?, *lists.right.get(gap)?);
+    let slack = printed_slack(lists, left, right, *lists.distance.get(gap)?);
+    Some(format!("slack,{gap},{},{}\r\n", slack.num, slack.den))
+}
+
+/// The slack of a gap; 0/1 where an end is no label, or a place or the distance is outside its limits.
+fn printed_slack(lists: &Listable<'_>, left: u64, right: u64, distance: i64) -> Fraction {
+    let end = |label: u64| place(lists, usize::try_from(label).ok()?);
+    let answer = match (end(left), end(right)) {
+        (Some(left), Some(right)) => Some(slack::expected(left, right, distance)),
+        _ => None,
+    };
+    match answer {
+        Some(SlackAnswer::Slack(slack)) => slack,
+        _ => Fraction { num: 0, den: 1 },
     }
 }

@@ -13,8 +13,8 @@ abbrev μ-loop : tie.MeasureT-loop
 loop-holds : tie.Need-loop-holds Inv-loop μ-loop
 loop-holds c = omega arith
 
-lack-at-requires : tie.Need-lack-at-requires Inv-loop μ-loop
-lack-at-requires c κs = let s = c .before .before .pre in let within = c .loop-test .taken in (omega arith, s .1 _ within, s .2 _ within)
+slack-at-requires : tie.Need-slack-at-requires Inv-loop μ-loop
+slack-at-requires c κs = let s = c .before .before .pre in let within = c .loop-test .taken in (omega arith, s .1 _ within, s .2 _ within)
 
 returns : tie.Need-returns Inv-loop μ-loop
 returns c = tt
@@ -38,7 +38,7 @@ any-lacks-spec =
     Inv-loop
     μ-loop
     loop-holds
-    lack-at-requires
+    slack-at-requires
     returns
     add-e
     loop-less

@@ -5,16 +5,16 @@ use Rattle.core_guess.proofs.guess.widest.Statement.{statement}
 use Rattle.core_guess.proofs.guess.widest.Tie as tie
 
 abbrev Inv-loop : tie.InvT-loop
-Inv-loop gaps left right reach block place most₀ gap₀ e₀ most gap e = e ≤ gaps
+Inv-loop gaps left right reach block place least₀ gap₀ e₀ least gap e = e ≤ gaps
 
 abbrev μ-loop : tie.MeasureT-loop
-μ-loop gaps left right reach block place most₀ gap₀ e₀ most gap e = gaps - e
+μ-loop gaps left right reach block place least₀ gap₀ e₀ least gap e = gaps - e
 
 loop-holds : tie.Need-loop-holds Inv-loop μ-loop
 loop-holds c = omega arith
 
-lack-at-requires : tie.Need-lack-at-requires Inv-loop μ-loop
-lack-at-requires c κs = let s = c .before .before .pre in let within = c .loop-test .taken in (omega arith, s .1 _ within, s .2 _ within)
+slack-at-requires : tie.Need-slack-at-requires Inv-loop μ-loop
+slack-at-requires c κs = let s = c .before .before .pre in let within = c .loop-test .taken in (omega arith, s .1 _ within, s .2 _ within)
 
 within-block-requires : tie.Need-within-block-requires Inv-loop μ-loop
 within-block-requires c κs = let s = c .before .before .before .before .pre in let within = c .before .before .loop-test .taken in (omega arith, s .1 _ within, s .2 _ within)
@@ -38,7 +38,7 @@ widest-spec =
     Inv-loop
     μ-loop
     loop-holds
-    lack-at-requires
+    slack-at-requires
     within-block-requires
     add-e
     loop-less

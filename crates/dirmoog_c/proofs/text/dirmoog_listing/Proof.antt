@@ -3,7 +3,7 @@
 use borrow.Author.Needs.{needs}
 use mathlib.Core.Path.{ap, _∙_}
 use Rattle.ground.specs.declared.Answer.{Answer}
-use Rattle.text_listing.specs.Listing.{Listing, listedIn, numberOf, bytesOf}
+use Rattle.text_listing.specs.Listing.{Listable, Listing, listableNow, listedIn, numberOf, bytesOf}
 use Rattle.dirmoog_c.proofs.Telling.{told-at, listing-place}
 use Rattle.dirmoog_c.proofs.text.dirmoog_listing.Statement.{statement}
 use Rattle.dirmoog_c.proofs.text.dirmoog_listing.Tie as tie
@@ -31,20 +31,17 @@ same-length-2 c = search needs
 
 returns : tie.Need-returns
 returns c =
-    let a = c .before .before .before .before .before .before .before .before .before .before .before .before .before .args in
-    let listing = ap (λ (r : Answer). listedIn r (a .place-num .now) (a .place-den .now) (a .text .now))
-    (c .before .before .before .before .before .before .before .before .before .before .answer-of .ensures) in
+    let a = c .before .before .before .before .before .before .before .before .before .before .before .before .before .before .before .args in
+    let l : Listable = listableNow (a .place-num) (a .place-den) (a .left) (a .right) (a .distance) in
+    let listing = ap (λ (r : Answer). listedIn r l (a .text .now)) (c .before .before .before .before .before .before .before .before .before .before .answer-of .ensures) in
     let wrote = c .before .before .before .before .before .before .before .before .write-listing .ensures in
-    let answer = wrote .0 ∙ ap (λ (l : Listing). l .answer) listing in (
-      c .listed-number .ensures ∙ ap numberOf answer,
-      (
-        wrote .1 ∙ ap (λ (l : Listing). l .buffer) listing,
-        (
-          told-at (a .out .now) 0 (c .before .before .before .put .ensures) (c .before .before .before .before .listed-bytes .ensures ∙ ap bytesOf answer),
-          listing-place _ _ _ _,
-        ),
-      ),
-    )
+    let answer = wrote .0 ∙ ap (λ (l : Listing). l .answer) listing in
+    record {
+      written = wrote .1 ∙ ap (λ (l : Listing). l .buffer) listing;
+      returned = c .listed-number .ensures ∙ ap numberOf answer;
+      out-told = told-at (a .out .now) 0 (c .before .before .before .put .ensures) (c .before .before .before .before .listed-bytes .ensures ∙ ap bytesOf answer);
+      no-place = listing-place _ _ _;
+    }
 
 pub dirmoog-listing-spec : {M : Type 1} → statement M
 dirmoog-listing-spec =

@@ -55,7 +55,7 @@ put c =
 
 loop-holds : tie.Need-loop-holds Inv-loop μ-loop
 unfolding placeRecords
-loop-holds c = (omega arith, refl, omega arith, nothing (c .before .args .buf .now))
+loop-holds c = (omega arith, refl, omega arith, nothing (c .before .args .buf .now) 0 (omega arith))
 
 mul-put-place : tie.Need-mul-put-place Inv-loop μ-loop
 mul-put-place c = omega arith
@@ -106,10 +106,11 @@ same-length c = c .before .loop .inv .1
 
 returns : tie.Need-returns Inv-loop μ-loop
 returns c =
-    told
-    (ap (λ (n : ℕ). placeRecords n (c .before .before .before .args .place-num .now)
-    (c .before .before .before .args .place-den .now)) (omega arith))
-    (c .before .loop .inv .3)
+    let s = c .before .before .before in
+    let i = c .before .loop .inv in (
+      told (ap (λ (n : ℕ). placeRecords n (s .args .place-num .now) (s .args .place-den .now)) (omega arith)) (i .3),
+      omega (arith, i .2, s .pre .0),
+    )
 
 pub put-places-spec : {M : Type 1} → statement M
 put-places-spec =

@@ -3,15 +3,18 @@ use borrow.Author.Needs.{needs}
 use mathlib.Core.Path.{_∙_, ap, sym}
 use denote.Ref.{now}
 use Rattle.ground.specs.declared.Answer.{Answer}
-use Rattle.text_listing.specs.Listing.{Listing, listedIn}
+use Rattle.text_listing.specs.Listing.{Listable, listableNow, Listing, listedIn}
 use Rattle.text_listing.proofs.listing.write_listing.Statement.{statement}
 use Rattle.text_listing.proofs.listing.write_listing.Tie as tie
+
+abbrev listable : tie.Start → Listable
+listable s = listableNow (s .args .place-num) (s .args .place-den) (s .args .left) (s .args .right) (s .args .distance)
 
 enum-told : tie.Need-enum-told
 enum-told c = search needs
 
-list-places-requires : tie.Need-list-places-requires
-list-places-requires c κs = search needs
+list-sheet-requires : tie.Need-list-sheet-requires
+list-sheet-requires c κs = search needs
 
 enum-known-answer : tie.Need-enum-known-answer
 enum-known-answer c = search needs
@@ -24,9 +27,9 @@ same-length c = search needs
 
 returns : tie.Need-returns
 returns c =
-    let a = c .before .before .before .before .before .before .before .args in
-    let e = c .before .before .list-places .ensures
-    ∙ ap (λ (r : Answer). listedIn r (now (a .place-num)) (now (a .place-den)) (now (a .out)))
+    let s = c .before .before .before .before .before .before .before .before .before in
+    let e = c .before .before .list-sheet .ensures
+    ∙ ap (λ (r : Answer). listedIn r (listable s) (now (s .args .out)))
     (sym (c .before .before .before .before .enum-told .given .1)) in
     (ap (λ (l : Listing). l .answer) e, ap (λ (l : Listing). l .buffer) e)
 
@@ -36,9 +39,9 @@ same-length-2 c = search needs
 returns-2 : tie.Need-returns-2
 unfolding listedIn
 returns-2 c =
-    let a = c .before .before .before .before .before .before .before .before .args in
+    let s = c .before .before .before .before .before .before .before .before .before .before in
     let e = c .before .before .list-refused .ensures
-    ∙ ap (λ (r : Answer). listedIn r (now (a .place-num)) (now (a .place-den)) (now (a .out)))
+    ∙ ap (λ (r : Answer). listedIn r (listable s) (now (s .args .out)))
     (sym (c .before .before .before .before .before .answer .given .1)) in
     (ap (λ (l : Listing). l .answer) e, ap (λ (l : Listing). l .buffer) e)
 
@@ -47,7 +50,7 @@ write-listing-spec =
     tie.close
     (tie.spec
     enum-told
-    list-places-requires
+    list-sheet-requires
     enum-known-answer
     list-refused-requires
     same-length
