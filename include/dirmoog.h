@@ -6,8 +6,9 @@
  * and any contents may be lent, and every call returns. The calls keep no state, so threads may call them at once.
  *
  * The caller sees to the stack: nothing checks that there is enough. Arguments and return address included,
- * dirmoog_layout needs at most 18,232 bytes, dirmoog_read 5,576, dirmoog_listing 4,176 and dirmoog_round 8. What
- * memcpy and memset need comes on top: a first call that has them looked up took 624 bytes more. 32 KiB are enough.
+ * dirmoog_layout needs at most 18,232 bytes, dirmoog_read 5,576, dirmoog_listing 25,728, dirmoog_slack 40 and
+ * dirmoog_round 8. What memcpy and memset need comes on top: a first call that has them looked up took at most 2,232 bytes
+ * more. 32 KiB are enough.
  *
  * Every call returns 0, or the number of a refusal. A refused call writes nothing but what its comment names.
  *

@@ -14,7 +14,7 @@ use Rattle.ground.specs.Answers.{numberOf, refusedPlace, ringLengthOf}
 
 -- two numbers told at the front of a lent list;
 -- setting an entry that the list has not leaves it as it is, so what fits is told
-abbrev pub told : ℕ → ℕ → List ℕ → List ℕ
+abbrev pub told : {A : Type 0} → A → A → List A → List A
 told first second out = set (set out 0 first) 1 second
 
 -- a layout call keeps its promise with an answer whose number it returns, and whose place and ring length it tells
@@ -27,5 +27,5 @@ pub record Laid (r : Read) (w : Written) (out : List ℕ) (number : ℕ) (after 
 -- the number of a slack's answer returned, its slack told as numerator and denominator; its place is 0 and is not told
 pub record SlackTold (answer : SlackAnswer) (out : List ℤ) (number : ℕ) (out-after : List ℤ) : Type 0 where
   pub returned : number ≡ slacks.numberOf answer
-  pub out-told : out-after ≡ set (set out 0 (slackGiven answer .num)) 1 (slackGiven answer .den)
+  pub out-told : out-after ≡ told (slackGiven answer .num) (slackGiven answer .den) out
   pub no-place : slacks.refusedPlace answer ≡ 0
