@@ -157,8 +157,7 @@ uint64_t dirmoog_read(const uint8_t *text, size_t text_len,
  *   distance   distance; as many entries. The slack of a gap is what dirmoog_slack gives, so 0/1 where that is refused; it
  *              is 0/1 too where an end is no label.
  * To write:
- *   text       the listing is written to its front. 24,576 bytes are room for every listing; one of dirmoog_layout's places
- *              needs less.
+ *   text       the listing is written to its front. 24,576 bytes are room for every listing.
  *   out        the count of bytes written, or 0 where it is refused. An empty out loses it. Entries beyond the first stay.
  *
  * The bytes beyond stay. Where it is refused, out alone is written.

@@ -95,7 +95,11 @@ pub struct Listable<'a> {
 /// Writes the listing of an answer to the front of a buffer: a record per label with its place, then
 /// one per gap with its slack; or the refusal's, for which the lists are without effect. A refusal
 /// with the number 0, which no call answers, is listed as placed. 24,576 bytes are room for every
-/// listing.
+/// listing. A slack is 0/1 where an end of the gap is no label, and where [`slack`](crate::slack)
+/// refuses it.
+///
+/// Refused with 1 for more than 48 labels, 2 for more than 192 gaps, 3 for lists that belong
+/// together and differ in length, 4 for a buffer that is too short; then nothing is written.
 ///
 /// ```
 /// use dirmoog::{write_listing, Answer, Listable, Listed};
@@ -106,6 +110,7 @@ pub struct Listable<'a> {
 ///     left: &[0],
 ///     right: &[1],
 ///     distance: &[6],
+///     ..Listable::default()
 /// };
 /// let mut text = [0; 64];
 /// let listed = write_listing(Answer::Placed, &lists, &mut text);

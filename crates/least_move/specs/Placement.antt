@@ -22,7 +22,8 @@ abbrev pub slackOf : Placement → Gap → Fraction
 slackOf p c = slackBetween (p (c .left)) (p (c .right)) (c .distance)
 
 -- whether a gap of this kind holds is told by the sign of its slack, "negative where the gap is broken": that of the
--- numerator, since the denominator is above zero; an exact gap has no slack, and an ignored one asks nothing
+-- numerator, since the denominator is above zero; an exact gap holds where its slack is zero, and an ignored one asks
+-- nothing
 abbrev pub HoldsWith : Kind → Fraction → Type 0
 HoldsWith at-least slack = pos 0 ≤ℤ slack .num
 HoldsWith exactly slack = slack .num ≡ pos 0

@@ -1,5 +1,6 @@
--- The slack that is printed for a gap of an accepted sheet is the gap's own: 12 and 8 meet none. So none is below zero,
--- and that of a marked gap, or of one with a multiplier other than zero, is 0/1 (document 02, Item 1). Nothing cites them.
+-- The slack that is printed for a gap of an accepted sheet is the gap's own: 12 and 8 meet none. So none is below zero, and
+-- that of a tight gap, a marked one, or one with a multiplier other than zero, is 0/1 (document 02, Item 1). Nothing cites
+-- them.
 use Prim.Native.Nat.{ℕ, suc, _≤_, _<_}
 use mathlib.Core.Path.{_≡_, refl, sym, ap, ap₂, _∙_}
 use mathlib.Core.Bool.{Bool, true, false, _||_}
@@ -25,8 +26,8 @@ use Rattle.exact.specs.Slack.{slackAnswer, slackGiven, withinDistance}
 use Rattle.exact.proofs.PlaceLimits.{places-pass}
 use Rattle.exact.proofs.Slacks.{slack-of-places}
 use Rattle.least_move.specs.Sheet.{Proper, label}
-use Rattle.least_move.specs.Placement.{slackOf}
-use Rattle.least_move.proofs.Slack.{held-slack, loaded-slack, marked-slack}
+use Rattle.least_move.specs.Placement.{slackOf, Tight}
+use Rattle.least_move.proofs.Slack.{held-slack, loaded-slack, marked-slack, tight-slack}
 use Rattle.sheet_checks.specs.Lent.{Read, Written, gapCount, labelCount, lists, multiplierOf, placeOf, sheetOf}
 use Rattle.sheet_checks.specs.Refusals.{outside}
 use Rattle.sheet_checks.proofs.Passed.{Passed, or-clear, table-passed}
@@ -90,12 +91,21 @@ module _ (wanted weight : List ℤ) (l : Listable) {w after : Written} (promise 
   unfolding sheetOf
   listed-held e h = rw (listed-slack e h) (held-slack (accepted .least .feasible) e h refl)
 
-  -- a marked gap is tight
-  pub listed-tight : (e : GapNumber) → e .0 < gapsIn l → markOf after e ≡ true → printedSlack l (e .0) ≡ whole (pos 0)
+  -- a tight gap is printed with 0/1
+  pub listed-tight : (e : GapNumber) → e .0 < gapsIn l → Tight (placeOf after) (sheetOf (callOn wanted weight l) .gap e) → printedSlack l (e .0) ≡ whole (pos 0)
   unfolding sheetOf
-  listed-tight e h marked = listed-slack e h ∙ marked-slack proper (accepted .least .feasible) (accepted .marks) e h marked
+  listed-tight e h tight =
+      let fractions = accepted .least .feasible .fractions in
+      listed-slack e h
+      ∙ tight-slack (placeOf after) (sheetOf (callOn wanted weight l) .gap e)
+      (fractions (label (nat (l .left) (e .0))) (proper .left-in e h)) (fractions (label (nat (l .right) (e .0))) (proper .right-in e h)) tight
 
-  -- and so is one with a multiplier other than zero
+  -- so is a marked one
+  pub listed-marked : (e : GapNumber) → e .0 < gapsIn l → markOf after e ≡ true → printedSlack l (e .0) ≡ whole (pos 0)
+  unfolding sheetOf
+  listed-marked e h marked = listed-slack e h ∙ marked-slack proper (accepted .least .feasible) (accepted .marks) e h marked
+
+  -- and one with a multiplier other than zero
   pub listed-loaded : (e : GapNumber) → e .0 < gapsIn l → ¬ (multiplierOf after e ≃ whole (pos 0)) → printedSlack l (e .0) ≡ whole (pos 0)
   unfolding sheetOf
   listed-loaded e h loaded = listed-slack e h ∙ loaded-slack proper (accepted .conditions) e h loaded
@@ -129,8 +139,11 @@ module _ (c : Counts) (l : Lists) {w after : Written} (promise : Promise (sheetR
   pub printed-held : (e : GapNumber) → e .0 < gapCount (sheetRead c l) → pos 0 ≤ℤ printedSlack (listableRead c l after) (e .0) .num
   printed-held = listed-held (take (c .labels) (l .wanted)) (take (c .labels) (l .weight)) (listableRead c l after) promise enough-read same-read
 
-  pub printed-tight : (e : GapNumber) → e .0 < gapCount (sheetRead c l) → markOf after e ≡ true → printedSlack (listableRead c l after) (e .0) ≡ whole (pos 0)
+  pub printed-tight : (e : GapNumber) → e .0 < gapCount (sheetRead c l) → Tight (placeOf after) (sheetOf (sheetRead c l) .gap e) → printedSlack (listableRead c l after) (e .0) ≡ whole (pos 0)
   printed-tight = listed-tight (take (c .labels) (l .wanted)) (take (c .labels) (l .weight)) (listableRead c l after) promise enough-read same-read
+
+  pub printed-marked : (e : GapNumber) → e .0 < gapCount (sheetRead c l) → markOf after e ≡ true → printedSlack (listableRead c l after) (e .0) ≡ whole (pos 0)
+  printed-marked = listed-marked (take (c .labels) (l .wanted)) (take (c .labels) (l .weight)) (listableRead c l after) promise enough-read same-read
 
   pub printed-loaded : (e : GapNumber) → e .0 < gapCount (sheetRead c l) → ¬ (multiplierOf after e ≃ whole (pos 0)) → printedSlack (listableRead c l after) (e .0) ≡ whole (pos 0)
   printed-loaded = listed-loaded (take (c .labels) (l .wanted)) (take (c .labels) (l .weight)) (listableRead c l after) promise enough-read same-read

@@ -1,14 +1,15 @@
-//! The example in C is compiled with the header and the static library, and run on texts.
+//! Programs in C are compiled with the header and the static library and run: the example on texts, and the calls over
+//! single fractions.
 use std::fs::File;
 use std::io::Write;
 use std::path::{Path, PathBuf};
 use std::process::{Command, Stdio};
 
-/// Compiles the example to a file beside this test.
-fn compile() -> PathBuf {
+/// Compiles a program of the tests' folder to a file beside this test.
+fn compile(name: &str) -> PathBuf {
     let package = Path::new(env!("CARGO_MANIFEST_DIR"));
     let test = std::env::current_exe().expect("the test's own path");
-    let program = test.with_file_name("dirmoog_c_example");
+    let program = test.with_file_name(format!("dirmoog_{name}"));
     let compiled = Command::new("cc")
         .args([
             "-std=c99",
@@ -20,7 +21,7 @@ fn compile() -> PathBuf {
             "-I",
         ])
         .arg(package.join("../include"))
-        .arg(package.join("tests/c_example.c"))
+        .arg(package.join(format!("tests/{name}.c")))
         .arg(Path::new(env!("DIRMOOG_LIB")).join("libdirmoog_c.a"))
         .arg("-o")
         .arg(&program)
@@ -47,7 +48,7 @@ fn printed(program: &Path, text: &[u8]) -> String {
 
 #[test]
 fn runs() {
-    let program = compile();
+    let program = compile("c_example");
     let run = b"label,0,0,1\r\nlabel,1,3,1\r\ngap,0,1,6\r\n";
     assert_eq!(
         printed(&program, run),
@@ -82,4 +83,30 @@ fn fails(program: &Path) {
         .stdout(full.expect("/dev/full"))
         .status();
     assert_eq!(unwritten.expect("a run").code(), Some(1));
+}
+
+/// What the program over single fractions prints for some numbers: what the call returns, and two entries.
+fn fraction_call(program: &Path, numbers: &[i64]) -> String {
+    let words = numbers.iter().map(i64::to_string);
+    let done = Command::new(program).args(words).output().expect("a run");
+    assert!(done.status.success());
+    String::from_utf8(done.stdout).expect("three numbers")
+}
+
+#[test]
+fn single_fractions() {
+    let program = compile("c_fractions");
+    for (numbers, told) in [
+        (&[-3, 2][..], "0 -2 77\n"),
+        (&[1, 4_801], "12 0 77\n"),
+        (&[1, 2, 1, 3, 0], "0 -1 6\n"),
+        (&[1, 3, 1, 2, 0], "0 1 6\n"),
+        (&[1, 2, 10, 3, 2], "0 5 6\n"),
+        (&[1, 0, 1, 1, 30_000], "12 0 1\n"),
+        (&[1, 1, 1, 0, 30_000], "12 0 1\n"),
+        (&[0, 1, 0, 1, 20_001], "8 0 1\n"),
+        (&[i64::MIN; 5], "12 0 1\n"),
+    ] {
+        assert_eq!(fraction_call(&program, numbers), told, "{numbers:?}");
+    }
 }

@@ -179,3 +179,46 @@ fn listing_tells_what_fits() {
         }
     }
 }
+
+/// Lists of these lengths are refused with 1, 2 or 3: 0 bytes are told, and the text stays.
+#[test]
+fn refused_listing_tells_what_fits() {
+    for (lengths, number) in [
+        ([49, 49, 0, 0, 0], 1),
+        ([1, 1, 193, 193, 193], 2),
+        ([1, 2, 1, 1, 1], 3),
+        ([1, 1, 1, 0, 1], 3),
+        ([1, 1, 1, 1, 2], 3),
+    ] {
+        let [nums, dens, lefts, rights, distances] = lengths;
+        let (num, den, distance) = (vec![1i64; nums], vec![1i64; dens], vec![0i64; distances]);
+        let (left, right) = (vec![0u64; lefts], vec![0u64; rights]);
+        for entries in 0..3 {
+            let (mut text, mut out) = ([77u8; 9], vec![77u64; entries]);
+            let mut expected = out.clone();
+            expected.iter_mut().take(1).for_each(|first| *first = 0);
+            // SAFETY: each pointer is that of a list of the length given.
+            let answer = unsafe {
+                raw::dirmoog_listing(
+                    0,
+                    0,
+                    num.as_ptr(),
+                    nums,
+                    den.as_ptr(),
+                    dens,
+                    left.as_ptr(),
+                    lefts,
+                    right.as_ptr(),
+                    rights,
+                    distance.as_ptr(),
+                    distances,
+                    text.as_mut_ptr(),
+                    text.len(),
+                    out.as_mut_ptr(),
+                    out.len(),
+                )
+            };
+            assert_eq!((answer, out, text), (number, expected, [77; 9]));
+        }
+    }
+}

@@ -62,7 +62,7 @@ fn texts() {
 fn listings() {
     let (mut place_num, mut place_den) = ([i64::MIN; 48], [i64::MIN; 48]);
     (place_num[0], place_den[0]) = (-5_472_000_000, 4_799);
-    (place_num[47], place_den[47]) = (5_472_000_000, 4_800);
+    (place_num[47], place_den[47]) = (5_471_999_999, 4_800);
     let lists = Listable {
         place_num: &place_num,
         place_den: &place_den,
@@ -85,7 +85,8 @@ fn listings() {
 fn single_fractions() {
     assert_eq!(on_little(|| round(-3, 2)), Rounded::Whole(-2));
     let place = |num, den| Fraction { num, den };
-    let (left, right) = (place(-5_472_000_000, 4_799), place(5_472_000_000, 4_800));
+    let (left, right) = (place(-5_472_000_000, 4_799), place(5_471_999_999, 4_800));
+    let most = place(52_986_431_995_201, 23_035_200);
     let answer = on_little(|| slack(left, right, -20_000));
-    assert_eq!(answer, SlackAnswer::Slack(place(11_038_840_000, 4_799)));
+    assert_eq!(answer, SlackAnswer::Slack(most));
 }

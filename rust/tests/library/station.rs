@@ -53,6 +53,29 @@ fn a_sheet_is_listed() {
     fed(&[], "");
 }
 
+/// Slacks above zero, and as many labels and gaps as a sheet holds.
+#[test]
+fn slacks_are_listed() {
+    let sheet = concat!(env!("CARGO_MANIFEST_DIR"), "/../sheets/nearly-touching.csv");
+    let touching = std::fs::read(sheet).expect("the sheet");
+    fed(
+        &[&touching],
+        "place,0,-8,3,-3\r\nplace,1,7,3,2\r\nplace,2,77,2,39\r\nplace,3,85,2,43\r\n\
+         slack,0,0,1\r\nslack,1,0,1\r\nslack,2,37,6\r\n",
+    );
+    let (mut text, mut listing) = (String::new(), String::new());
+    for i in 0..48 {
+        text += &format!("label,{i},{},1\n", 100 * i);
+        listing += &format!("place,{i},{0},1,{0}\r\n", 100 * i);
+    }
+    for e in 0..192 {
+        let left = e % 46;
+        text += &format!("gap,{left},{},{e}\n", left + 1 + e / 100);
+        listing += &format!("slack,{e},{},1\r\n", 100 * (1 + e / 100) - e);
+    }
+    fed(&[text.as_bytes()], &listing);
+}
+
 #[test]
 fn a_short_read_is_no_end() {
     let (first, second) = SHEET.split_at(20);

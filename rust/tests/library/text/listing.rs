@@ -315,7 +315,9 @@ fn longest_listings() {
     assert_eq!(check(Answer::Placed, &places, &room), 0);
     let mut slacks = Lists::default();
     (0..24).for_each(|_| slacks.place(5_472_000_000, 4_799));
-    (0..24).for_each(|_| slacks.place(-5_472_000_000, 4_800));
+    (0..24).for_each(|_| slacks.place(-5_471_999_999, 4_800));
     (0..192).for_each(|_| slacks.gap(0, 47, 20_000));
     assert_eq!(check(Answer::Placed, &slacks, &room), 0);
+    let last = b"slack,191,-52986431995201,23035200\r\n";
+    assert!(listing(Answer::Placed, &slacks.lent()).ends_with(last));
 }
