@@ -2,6 +2,7 @@ pub mod Fractions
 pub mod Divisor
 pub mod PlaceLimits
 pub mod Rounding
+pub mod RoundingCases
 pub mod Ordering
 pub mod Slacks
 pub mod Samples

@@ -1,54 +1,31 @@
 -- IEEE 754's roundTiesToAway: the nearest whole number, and of two as near the one further from zero;
 -- how the code finds it, and when refusal 12 is met.
-use mathlib.Core.Path.{_≡_, refl, sym, _∙_, ap, ap₂}
+use mathlib.Core.Path.{_≡_, refl, sym, _∙_, ap}
 use mathlib.Core.Logic.{_⊎_, inl, inr, ⊎-elim}
-use mathlib.Core.Bool.{Bool, true, false, cond}
+use mathlib.Core.Bool.{Bool, true, false, cond, true≢false}
 use mathlib.Core.List.{List, [], _∷_}
 use Prim.Native.Nat.{ℕ, suc, _+_, _*_, _-_, _/_, _%_, _≤_, _<_, _^_}
 use native.Mathlib.Omega.{arith}
-use native.Mathlib.Nat.{div-add-mod', mod-lt}
+use native.Mathlib.Nat.{div-add-mod', mod-lt, div-le-self}
 use lib.Dec.{ltb}
-use borrow.Author.Tests.{ltb-true, ltb-false, lt-ltb, le-ltb}
-use lib.IntN.{ℤ, pos, negsuc, negℤ, natAbs, _+ℤ_, _-ℤ_, _*ℤ_, negℤ-+ℤ}
-use lib.Signed.{_≤ℤ_, _<ℤ_, ltZ, quotZ, remZ}
+use borrow.Author.Tests.{ltb-true, ltb-false}
+use lib.IntN.{ℤ, pos, negsuc, negℤ, natAbs, _+ℤ_, _-ℤ_, _*ℤ_, +ℤ-idl, negℤ-+ℤ}
+use lib.Signed.{_≤ℤ_, _<ℤ_, leZ, quotZ, remZ}
 use mir.Syntax.{w64}
 use mir.Val.{SFits}
-use Rattle.ground.specs.Limits.{placeDenMost, placeNumMost, fractionDenMost}
+use Rattle.ground.specs.Limits.{placeDenMost, placeNumMost, fractionNumMost}
 use Rattle.exact.specs.declared.Fraction.{Fraction}
 use Rattle.exact.specs.declared.Rounded.the-variants.{Whole}
+use Rattle.exact.specs.declared.round.Half.{Half}
 use Rattle.exact.specs.Divide.{InRange}
 use Rattle.exact.specs.Places.{withinPlaces}
-use Rattle.exact.specs.Round.{nearestMagnitude, roundTiesToAway, refusal12, rounded}
+use Rattle.exact.specs.RoundingCases.{AgainstHalf}
+use Rattle.exact.specs.Round.{onSide, nearestMagnitude, roundTiesToAway, refusal12, rounded}
 use Rattle.algebra.proofs.Whole.{pp, nn, parts-+, pp-neg, nn-neg, le-parts, parts-le, lt-parts, parts-lt, one-part, parts-natAbs, negℤ-*ℤ, le-antisym, le-of-lt, le-or-lt, *ℤ-le}
 use Rattle.algebra.proofs.Ring.{quotes, le-given, le-goal}
-use Rattle.algebra.proofs.Quotient.{natAbs-neg, natAbs-negated, natAbs-*, natAbs-+, above-natAbs, natAbs-rem, lt-of-test, le-of-test, test-of-leZ, next-le, kept, fits-as, kept-as}
+use Rattle.algebra.proofs.Quotient.{natAbs-neg, natAbs-negated, natAbs-*, above-natAbs, small-fits, pos-of-above, test-of-leZ, next-le, kept, fits-as, kept-as}
 use Rattle.exact.proofs.PlaceLimits.{places-test, places-passed}
-use Rattle.exact.proofs.Ordering.{den-kept, quot-small, quot-kept, rem-small, rem-kept}
-
--- ---- the quotient, or the whole number next to it
-
--- the rest is below a half
-pub round-whole : (num den : ℤ) → pos 0 <ℤ den → 2 * natAbs (remZ num den) < natAbs den → quotZ num den ≡ roundTiesToAway num den
-unfolding roundTiesToAway
-round-whole (pos a) (pos d) h k = rw (lt-ltb (2 * (a % d)) d k)
-round-whole (negsuc a) (pos d) h k = rw (lt-ltb (2 * (suc a % d)) d (omega (arith, natAbs-rem (negsuc a) (pos d))))
-round-whole (pos a) (negsuc d) h k = absurd (omega (arith, lt-parts h))
-round-whole (negsuc a) (negsuc d) h k = absurd (omega (arith, lt-parts h))
-
--- it is a half or more, above zero
-pub round-up : (num den : ℤ) → pos 0 <ℤ den → pos 0 ≤ℤ remZ num den → natAbs den ≤ 2 * natAbs (remZ num den) → quotZ num den +ℤ pos 1 ≡ roundTiesToAway num den
-unfolding roundTiesToAway
-round-up (pos a) (pos d) h s k = rw (le-ltb (2 * (a % d)) d k)
-round-up (negsuc a) (pos d) h s k = absurd (omega (arith, lt-parts h, le-parts s, pp-neg (pos (suc a % d)), nn-neg (pos (suc a % d)), natAbs-rem (negsuc a) (pos d)))
-round-up (pos a) (negsuc d) h s k = absurd (omega (arith, lt-parts h))
-round-up (negsuc a) (negsuc d) h s k = absurd (omega (arith, lt-parts h))
-
--- it is a half or more, below zero
-pub round-down : (num den : ℤ) → pos 0 <ℤ den → remZ num den <ℤ pos 0 → natAbs den ≤ 2 * natAbs (remZ num den) → quotZ num den -ℤ pos 1 ≡ roundTiesToAway num den
-unfolding roundTiesToAway
-round-down (pos a) den h s k = absurd (omega (arith, lt-parts s))
-round-down (negsuc a) (pos d) h s k = rw (le-ltb (2 * (suc a % d)) d (omega (arith, natAbs-rem (negsuc a) (pos d)))) (sym (negℤ-+ℤ (pos (suc a / d)) (pos 1)))
-round-down (negsuc a) (negsuc d) h s k = absurd (omega (arith, lt-parts h))
+use Rattle.exact.proofs.Ordering.{num-kept, den-kept, quot-kept, rem-small, rem-kept}
 
 -- ---- how far the rounded number is off
 
@@ -72,19 +49,23 @@ gap-natAbs x a =
     (λ (e : pp (pos x -ℤ pos a) ≡ 0). omega (arith, parts-natAbs (pos x -ℤ pos a), parts-+ (pos x) (negℤ (pos a)), pp-neg (pos a), nn-neg (pos a)))
     (one-part (pos x -ℤ pos a))
 
--- the distance of the rounded number from num/den, times den: the same on either side of zero
-error : (num den : ℤ) → pos 0 <ℤ den → natAbs (roundTiesToAway num den *ℤ den -ℤ num) ≡ (nearestMagnitude (natAbs num) (natAbs den) * natAbs den - natAbs num) + (natAbs num - nearestMagnitude (natAbs num) (natAbs den) * natAbs den)
-unfolding roundTiesToAway
-error (pos a) (pos d) h = gap-natAbs (nearestMagnitude a d * d) a
-error (negsuc a) (pos d) h =
-    ap (λ (v : ℤ). natAbs (v -ℤ negsuc a)) (negℤ-*ℤ (pos (nearestMagnitude (suc a) d)) (pos d))
-    ∙ ap natAbs (sym (negℤ-+ℤ (pos (nearestMagnitude (suc a) d * d)) (negsuc a)))
-    ∙ natAbs-neg (pos (nearestMagnitude (suc a) d * d) -ℤ pos (suc a))
-    ∙ gap-natAbs (nearestMagnitude (suc a) d * d) (suc a)
-error (pos a) (negsuc d) h = absurd (omega (arith, lt-parts h))
-error (negsuc a) (negsuc d) h = absurd (omega (arith, lt-parts h))
+-- the distance of a whole number on num's side of zero from num/den, times den: the same on either side
+pub off-side : (num den : ℤ) (m : ℕ) → pos 0 <ℤ den → natAbs (onSide num m *ℤ den -ℤ num) ≡ (m * natAbs den - natAbs num) + (natAbs num - m * natAbs den)
+off-side (pos a) (pos d) m h = gap-natAbs (m * d) a
+off-side (negsuc a) (pos d) m h =
+    ap (λ (v : ℤ). natAbs (v -ℤ negsuc a)) (negℤ-*ℤ (pos m) (pos d))
+    ∙ ap natAbs (sym (negℤ-+ℤ (pos (m * d)) (negsuc a)))
+    ∙ natAbs-neg (pos (m * d) -ℤ pos (suc a))
+    ∙ gap-natAbs (m * d) (suc a)
+off-side (pos a) (negsuc d) m h = absurd (omega (arith, lt-parts h))
+off-side (negsuc a) (negsuc d) m h = absurd (omega (arith, lt-parts h))
 
-natAbs-round : (num den : ℤ) → natAbs (roundTiesToAway num den) ≡ nearestMagnitude (natAbs num) (natAbs den)
+-- of the rounded number
+pub error : (num den : ℤ) → pos 0 <ℤ den → (let x : ℕ = nearestMagnitude (natAbs num) (natAbs den) * natAbs den in natAbs (roundTiesToAway num den *ℤ den -ℤ num) ≡ (x - natAbs num) + (natAbs num - x))
+unfolding roundTiesToAway
+error num den h = off-side num den (nearestMagnitude (natAbs num) (natAbs den)) h
+
+pub natAbs-round : (num den : ℤ) → natAbs (roundTiesToAway num den) ≡ nearestMagnitude (natAbs num) (natAbs den)
 unfolding roundTiesToAway
 natAbs-round (pos a) den = refl
 natAbs-round (negsuc a) den = natAbs-neg (pos (nearestMagnitude (suc a) (natAbs den)))
@@ -146,102 +127,94 @@ module _ (num den : ℤ) (above : pos 0 <ℤ den) where
       go (inl w) = absurd (omega (arith, error num den above))
       go (inr w) = omega (arith, size)
 
--- ---- the code's tests and its numbers in 64 bits
+-- ---- the code's numbers in 64 bits
 
--- twice the rest's magnitude, by its sign, against the denominator
-twice-down : (r d : ℤ) → r <ℤ pos 0 → pos 0 <ℤ d → ((pos 2 *ℤ (pos 0 -ℤ r)) <ℤ d → 2 * natAbs r < natAbs d) × (d ≤ℤ (pos 2 *ℤ (pos 0 -ℤ r)) → natAbs d ≤ 2 * natAbs r)
-twice-down (negsuc n) (pos d) h k = ((λ l. omega (arith, lt-parts l)), (λ l. omega (arith, le-parts l)))
-twice-down (pos n) d h k = absurd (omega (arith, lt-parts h))
-twice-down (negsuc n) (negsuc d) h k = absurd (omega (arith, lt-parts k))
+-- the whole part and the remainder of a magnitude
+quot-magnitude : (num den : ℤ) → pos 0 ≤ℤ num → pos 0 <ℤ den → quotZ num den ≡ pos (natAbs num / natAbs den)
+quot-magnitude (pos a) (pos d) from above = refl
+quot-magnitude (negsuc a) den from above = absurd (omega (arith, le-parts from))
+quot-magnitude (pos a) (negsuc d) from above = absurd (omega (arith, lt-parts above))
 
-twice-up : (r d : ℤ) → pos 0 ≤ℤ r → pos 0 <ℤ d → ((pos 2 *ℤ r) <ℤ d → 2 * natAbs r < natAbs d) × (d ≤ℤ (pos 2 *ℤ r) → natAbs d ≤ 2 * natAbs r)
-twice-up (pos n) (pos d) h k = ((λ l. omega (arith, lt-parts l)), (λ l. omega (arith, le-parts l)))
-twice-up (negsuc n) d h k = absurd (omega (arith, le-parts h))
-twice-up (pos n) (negsuc d) h k = absurd (omega (arith, lt-parts k))
-
--- the whole part and the rest, as they are read back
-abbrev part : Fraction → ℤ
-part q = kept (quotZ (kept (q .num)) (kept (q .den)))
-
-abbrev rest : Fraction → ℤ
-rest q = kept (remZ (kept (q .num)) (kept (q .den)))
+rem-magnitude : (num den : ℤ) → pos 0 ≤ℤ num → pos 0 <ℤ den → remZ num den ≡ pos (natAbs num % natAbs den)
+rem-magnitude (pos a) (pos d) from above = refl
+rem-magnitude (negsuc a) den from above = absurd (omega (arith, le-parts from))
+rem-magnitude (pos a) (negsuc d) from above = absurd (omega (arith, lt-parts above))
 
 module _ (q : Fraction) (ok : InRange q) where
-  away-small : natAbs (pos 0 -ℤ remZ (q .num) (q .den)) < fractionDenMost
-  away-small = omega (arith, rem-small q ok, natAbs-negated (remZ (q .num) (q .den)))
-
-  pub away-asks : SFits w64 (pos 0 -ℤ rest q)
-  away-asks = fits-as (ap (λ (v : ℤ). pos 0 -ℤ v) (rem-kept q ok)) (omega (arith, away-small))
-
-  away-kept : kept (pos 0 -ℤ rest q) ≡ pos 0 -ℤ remZ (q .num) (q .den)
-  away-kept = kept-as (ap (λ (v : ℤ). pos 0 -ℤ v) (rem-kept q ok)) (omega (arith, away-small))
-
-  twice-away-small : natAbs (pos 2 *ℤ (pos 0 -ℤ remZ (q .num) (q .den))) < 2 ^ 63
-  twice-away-small = omega (arith, away-small, natAbs-* (pos 2) (pos 0 -ℤ remZ (q .num) (q .den)))
-
-  pub twice-away-asks : SFits w64 (pos 2 *ℤ kept (pos 0 -ℤ rest q))
-  twice-away-asks = fits-as (ap (λ (v : ℤ). pos 2 *ℤ v) away-kept) twice-away-small
-
-  twice-away-kept : kept (pos 2 *ℤ kept (pos 0 -ℤ rest q)) ≡ pos 2 *ℤ (pos 0 -ℤ remZ (q .num) (q .den))
-  twice-away-kept = kept-as (ap (λ (v : ℤ). pos 2 *ℤ v) away-kept) twice-away-small
-
   twice-small : natAbs (pos 2 *ℤ remZ (q .num) (q .den)) < 2 ^ 63
   twice-small = omega (arith, rem-small q ok, natAbs-* (pos 2) (remZ (q .num) (q .den)))
 
-  pub twice-asks : SFits w64 (pos 2 *ℤ rest q)
+  pub twice-asks : SFits w64 (pos 2 *ℤ kept (remZ (kept (q .num)) (kept (q .den))))
   twice-asks = fits-as (ap (λ (v : ℤ). pos 2 *ℤ v) (rem-kept q ok)) twice-small
 
-  twice-kept : kept (pos 2 *ℤ rest q) ≡ pos 2 *ℤ remZ (q .num) (q .den)
-  twice-kept = kept-as (ap (λ (v : ℤ). pos 2 *ℤ v) (rem-kept q ok)) twice-small
+  pub divisor-read : kept (q .den) ≡ pos (natAbs (q .den))
+  divisor-read = den-kept q ok ∙ sym (pos-of-above (ok .above))
 
-  next-small : natAbs (quotZ (q .num) (q .den) +ℤ pos 1) < 2 ^ 63
-  next-small = omega (arith, quot-small q ok, natAbs-+ (quotZ (q .num) (q .den)) (pos 1))
+  -- what the code finds of a magnitude
+  module _ (from : pos 0 ≤ℤ q .num) where
+    pub twice-read : kept (pos 2 *ℤ kept (remZ (kept (q .num)) (kept (q .den)))) ≡ pos (2 * (natAbs (q .num) % natAbs (q .den)))
+    twice-read =
+        kept-as (ap (λ (v : ℤ). pos 2 *ℤ v) (rem-kept q ok)) twice-small
+        ∙ ap (λ (v : ℤ). pos 2 *ℤ v) (rem-magnitude (q .num) (q .den) from (ok .above))
 
-  pub next-asks : SFits w64 (part q +ℤ pos 1)
-  next-asks = fits-as (ap (λ (v : ℤ). v +ℤ pos 1) (quot-kept q ok)) next-small
+    pub whole-read : kept (quotZ (kept (q .num)) (kept (q .den))) ≡ pos (natAbs (q .num) / natAbs (q .den))
+    whole-read = quot-kept q ok ∙ quot-magnitude (q .num) (q .den) from (ok .above)
 
-  last-small : natAbs (quotZ (q .num) (q .den) -ℤ pos 1) < 2 ^ 63
-  last-small = omega (arith, quot-small q ok, natAbs-+ (quotZ (q .num) (q .den)) (negℤ (pos 1)))
+    pub magnitude-asks : (pos 0 ≤ℤ kept (q .num)) × InRange (record { num = kept (q .num); den = kept (q .den) })
+    magnitude-asks = rw (num-kept q ok, den-kept q ok) (from, ok)
 
-  pub last-asks : SFits w64 (part q -ℤ pos 1)
-  last-asks = fits-as (ap (λ (v : ℤ). v -ℤ pos 1) (quot-kept q ok)) last-small
+  pub stands-read : {half told : Half} → told ≡ half → AgainstHalf told (kept (q .num)) (kept (q .den)) → AgainstHalf half (q .num) (q .den)
+  stands-read is st = rw (sym is, sym (num-kept q ok), sym (den-kept q ok)) st
 
-  -- what the code gives in each of its four ways
-  below-zero : ltZ (rest q) (pos 0) ≡ true → remZ (q .num) (q .den) <ℤ pos 0
-  below-zero e = lt-of-test (ap (λ (v : ℤ). ltZ v (pos 0)) (sym (rem-kept q ok)) ∙ e)
+  pub whole-small : natAbs (q .num) / natAbs (q .den) ≤ fractionNumMost
+  whole-small = omega (arith, ok .num-most, div-le-self (natAbs (q .num)) (natAbs (q .den)))
 
-  from-zero : ltZ (rest q) (pos 0) ≡ false → pos 0 ≤ℤ remZ (q .num) (q .den)
-  from-zero e = le-of-test (ap (λ (v : ℤ). ltZ v (pos 0)) (sym (rem-kept q ok)) ∙ e)
+-- the next whole number, and the sign put back
+module _ {whole : ℤ} {m : ℕ} (is : whole ≡ pos m) (small : m + 1 < 2 ^ 63) where
+  pub next-asks : SFits w64 (whole +ℤ pos 1)
+  next-asks = fits-as (ap (λ (v : ℤ). v +ℤ pos 1) is) small
 
-  down-test : ltZ (kept (pos 2 *ℤ kept (pos 0 -ℤ rest q))) (kept (q .den)) ≡ ltZ (pos 2 *ℤ (pos 0 -ℤ remZ (q .num) (q .den))) (q .den)
-  down-test = ap₂ ltZ twice-away-kept (den-kept q ok)
+  pub next-read : kept (whole +ℤ pos 1) ≡ pos (m + 1)
+  next-read = kept-as (ap (λ (v : ℤ). v +ℤ pos 1) is) small
 
-  up-test : ltZ (kept (pos 2 *ℤ rest q)) (kept (q .den)) ≡ ltZ (pos 2 *ℤ remZ (q .num) (q .den)) (q .den)
-  up-test = ap₂ ltZ twice-kept (den-kept q ok)
+  negated : pos 0 -ℤ whole ≡ negℤ (pos m)
+  negated = ap (λ (v : ℤ). pos 0 -ℤ v) is ∙ +ℤ-idl (negℤ (pos m))
 
-  pub whole-below : ltZ (rest q) (pos 0) ≡ true → ltZ (kept (pos 2 *ℤ kept (pos 0 -ℤ rest q))) (kept (q .den)) ≡ true → part q ≡ roundTiesToAway (q .num) (q .den)
-  whole-below s t =
-      quot-kept q ok
-      ∙ round-whole (q .num) (q .den) (ok .above)
-      (twice-down (remZ (q .num) (q .den)) (q .den) (below-zero s) (ok .above) .0 (lt-of-test (sym down-test ∙ t)))
+  pub negated-asks : SFits w64 (pos 0 -ℤ whole)
+  negated-asks = fits-as negated (omega (arith, natAbs-neg (pos m)))
 
-  pub last-below : ltZ (rest q) (pos 0) ≡ true → ltZ (kept (pos 2 *ℤ kept (pos 0 -ℤ rest q))) (kept (q .den)) ≡ false → kept (part q -ℤ pos 1) ≡ roundTiesToAway (q .num) (q .den)
-  last-below s t =
-      kept-as (ap (λ (v : ℤ). v -ℤ pos 1) (quot-kept q ok)) last-small
-      ∙ round-down (q .num) (q .den) (ok .above) (below-zero s)
-      (twice-down (remZ (q .num) (q .den)) (q .den) (below-zero s) (ok .above) .1 (le-of-test (sym down-test ∙ t)))
+  pub negated-read : kept (pos 0 -ℤ whole) ≡ negℤ (pos m)
+  negated-read = kept-as negated (omega (arith, natAbs-neg (pos m)))
 
-  pub whole-above : ltZ (rest q) (pos 0) ≡ false → ltZ (kept (pos 2 *ℤ rest q)) (kept (q .den)) ≡ true → part q ≡ roundTiesToAway (q .num) (q .den)
-  whole-above s t =
-      quot-kept q ok
-      ∙ round-whole (q .num) (q .den) (ok .above)
-      (twice-up (remZ (q .num) (q .den)) (q .den) (from-zero s) (ok .above) .0 (lt-of-test (sym up-test ∙ t)))
+-- the sign test
+pub not-from-zero : {num : ℤ} → leZ (pos 0) num ≡ false → num <ℤ pos 0
+not-from-zero {num} e = go (le-or-lt (pos 0) num)
+  where
+    go : (pos 0 ≤ℤ num) ⊎ (num <ℤ pos 0) → num <ℤ pos 0
+    go (inl h) = absurd (true≢false (sym (test-of-leZ h) ∙ e))
+    go (inr h) = h
 
-  pub next-above : ltZ (rest q) (pos 0) ≡ false → ltZ (kept (pos 2 *ℤ rest q)) (kept (q .den)) ≡ false → kept (part q +ℤ pos 1) ≡ roundTiesToAway (q .num) (q .den)
-  next-above s t =
-      kept-as (ap (λ (v : ℤ). v +ℤ pos 1) (quot-kept q ok)) next-small
-      ∙ round-up (q .num) (q .den) (ok .above) (from-zero s)
-      (twice-up (remZ (q .num) (q .den)) (q .den) (from-zero s) (ok .above) .1 (le-of-test (sym up-test ∙ t)))
+-- below zero: the magnitude that the code takes
+abbrev pub turned : Fraction → Fraction
+turned q = record { num = pos 0 -ℤ kept (q .num); den = q .den }
+
+module _ (q : Fraction) (ok : InRange q) where
+  pub turned-size : natAbs (pos 0 -ℤ kept (q .num)) ≡ natAbs (q .num)
+  turned-size = natAbs-negated (kept (q .num)) ∙ ap natAbs (num-kept q ok)
+
+  pub turned-in-range : InRange (turned q)
+  turned-in-range = record {
+    above = ok .above;
+    den-most = ok .den-most;
+    num-most = omega (arith, ok .num-most, turned-size);
+  }
+
+  pub turned-asks : SFits w64 (pos 0 -ℤ kept (q .num))
+  turned-asks = small-fits (pos 0 -ℤ kept (q .num)) (omega (arith, ok .num-most, turned-size))
+
+  pub turned-from : q .num <ℤ pos 0 → pos 0 ≤ℤ turned q .num
+  turned-from low =
+      parts-le (omega (arith, lt-parts low, parts-+ (pos 0) (negℤ (kept (q .num))), pp-neg (kept (q .num)), nn-neg (kept (q .num)), ap pp (num-kept q ok), ap nn (num-kept q ok)))
 
 -- ---- refusal 12
 

@@ -1,10 +1,14 @@
--- Samples of the rounding and of the slack. Nothing cites them.
+-- Samples of the rounding, of its cases and of the slack. Nothing cites them.
 use mathlib.Core.Path.{_≡_, refl}
+use native.Mathlib.Omega.{arith}
 use lib.IntN.{ℤ, pos, negsuc, negℤ}
+use Rattle.algebra.proofs.Whole.{parts-le, parts-lt}
 use Rattle.exact.specs.declared.Fraction.{Fraction}
 use Rattle.exact.specs.declared.SlackAnswer.the-variants.{Slack}
 use Rattle.exact.specs.Places.{withinPlaces}
-use Rattle.exact.specs.Round.{roundTiesToAway}
+use Rattle.exact.specs.Round.{numberOf, rounded, roundTiesToAway}
+use Rattle.exact.specs.declared.round.Half.the-variants.{Under, At}
+use Rattle.exact.specs.RoundingCases.{zero-or-above, below-zero, InCase, nextAway}
 use Rattle.exact.specs.Slack.{euclid, lowestOf, refusal, slackAnswer}
 
 -- ---- rounding: a half goes away from zero on either side
@@ -16,6 +20,30 @@ minus-three-halves = refl
 nine-halves : roundTiesToAway (pos 9) (pos 2) ≡ pos 5
 unfolding roundTiesToAway
 nine-halves = refl
+
+-- ---- the six cases: a fraction that is not refused, and where a reader may doubt in which case one falls
+
+not-refused : numberOf (rounded (negℤ (pos 3)) (pos 2)) ≡ 0
+unfolding rounded withinPlaces
+not-refused = refl
+
+-- 0/1 is zero or above, under half
+zero : InCase (record { side = zero-or-above; half = Under }) (pos 0) (pos 1)
+zero = (parts-le (omega arith), omega arith)
+
+-- -4/2 is below zero, under half, and so is -1/3, which gives 0
+minus-two : InCase (record { side = below-zero; half = Under }) (negℤ (pos 4)) (pos 2)
+minus-two = (parts-lt (omega arith), omega arith)
+
+minus-third : InCase (record { side = below-zero; half = Under }) (negℤ (pos 1)) (pos 3)
+minus-third = (parts-lt (omega arith), omega arith)
+
+-- -1/2 is below zero, at half, whose next whole number away from zero is -1
+minus-half : InCase (record { side = below-zero; half = At }) (negℤ (pos 1)) (pos 2)
+minus-half = (parts-lt (omega arith), refl)
+
+minus-half-next : nextAway below-zero (negℤ (pos 1)) (pos 2) ≡ negℤ (pos 1)
+minus-half-next = refl
 
 -- ---- the slack: the samples of document 02, Item 1
 

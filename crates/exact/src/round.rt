@@ -3,7 +3,10 @@ use crate::Rounded;
 use crate::places::within_places;
 use ground::Refusal;
 ghost use mathlib.Core.Path.{_≡_};
+ghost use lib.IntN.{pos};
+ghost use lib.Signed.{_≤ℤ_};
 ghost use Rattle.exact.specs.Divide.{InRange};
+ghost use Rattle.exact.specs.RoundingCases.{AgainstHalf};
 ghost use Rattle.exact.specs.Round.{roundTiesToAway, refusal12, rounded, numberOf, refusedPlace, wholeOf};
 
 impl Rounded {
@@ -38,17 +41,49 @@ impl Rounded {
     }
 }
 
-// The nearest whole number to num/den, halves away from zero.
-pub(crate) fn nearest(num: i64, den: i64) -> i64
+// The remainder of a magnitude against half.
+pub(crate) enum Half {
+    Under,
+    At,
+    Over,
+}
+
+// How the remainder of a magnitude by den stands to half of den.
+fn against_half(magnitude: i64, den: i64) -> Half
+    requires { ⌜ (pos 0 ≤ℤ magnitude) × InRange (record { num = magnitude; den = den }) ⌝ }
+    ensures { λ r. ⌜ AgainstHalf r magnitude den ⌝ }
+{
+    let twice = 2 * (magnitude % den);
+    if twice < den {
+        Half::Under
+    } else if den < twice {
+        Half::Over
+    } else {
+        Half::At
+    }
+}
+
+// The nearest whole number to num/den, halves away from zero, by six cases: zero or above and below zero, and for each
+// the remainder of the magnitude under, at or over half.
+fn ties_to_away(num: i64, den: i64) -> i64
     requires { ⌜ InRange (record { num = num; den = den }) ⌝ }
     ensures { λ r. ⌜ r ≡ roundTiesToAway num den ⌝ }
 {
-    let whole = num / den;
-    let rest = num % den;
-    if rest < 0 {
-        if 2 * -rest < den { whole } else { whole - 1 }
+    if num >= 0 {
+        let part = num / den;
+        match against_half(num, den) {
+            Half::Under => part,
+            Half::At => part + 1,
+            Half::Over => part + 1,
+        }
     } else {
-        if 2 * rest < den { whole } else { whole + 1 }
+        let magnitude = -num;
+        let part = magnitude / den;
+        match against_half(magnitude, den) {
+            Half::Under => -part,
+            Half::At => -(part + 1),
+            Half::Over => -(part + 1),
+        }
     }
 }
 
@@ -70,5 +105,5 @@ pub fn round(num: i64, den: i64) -> Rounded
     if !within_places(num, den) {
         return refused();
     }
-    Rounded::Whole(nearest(num, den))
+    Rounded::Whole(ties_to_away(num, den))
 }

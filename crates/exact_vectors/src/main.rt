@@ -1,5 +1,5 @@
-// Vectors of the exact crate, one to a line: both signs, zero, halves and what is next to them,
-// and each limit with its neighbour.
+// Vectors of the exact crate, one to a line: both signs, zero, the six cases of rounding under their names, what is next
+// to a half, and each limit with its neighbour.
 // The file stdout has what each line should be, worked out apart from this program.
 use exact::Fraction;
 use exact::Order;
@@ -187,41 +187,70 @@ fn comparisons_at_limits() {
     show_compare(0, -1, 0, 1);
 }
 
-fn halves() {
+fn zero_or_above() {
+    io::write_all(1, b"zero or above, under half\n");
     show_round(0, 1);
     show_round(0, 4800);
-    show_round(1, 2);
-    show_round(-1, 2);
-    show_round(3, 2);
-    show_round(-3, 2);
-    show_round(9, 2);
-    show_round(-9, 2);
-    show_round(7, 3);
-    show_round(8, 3);
-    show_round(-7, 3);
-    show_round(-8, 3);
+    show_round(1, 3);
+    show_round(1, 4800);
+    show_round(4, 2);
     show_round(6, 3);
-    show_round(-6, 3);
+    show_round(7, 3);
+    show_round(2399, 4799);
+    show_round(2399, 4800);
+    show_round(11999, 4800);
+    show_round(5471999762, 4799);
+    io::write_all(1, b"zero or above, at half\n");
+    show_round(1, 2);
+    show_round(3, 2);
+    show_round(5, 2);
+    show_round(9, 2);
+    show_round(2400, 4800);
+    show_round(12000, 4800);
+    show_round(5471997600, 4800);
+    show_round(5471999999, 2);
+    io::write_all(1, b"zero or above, over half\n");
+    show_round(2, 3);
+    show_round(8, 3);
+    show_round(2400, 4799);
+    show_round(2401, 4800);
+    show_round(12001, 4800);
+    show_round(5471999763, 4799);
+    show_round(5471999999, 3);
 }
 
-fn next_to_halves() {
-    show_round(2399, 4800);
-    show_round(2400, 4800);
-    show_round(2401, 4800);
-    show_round(-2399, 4800);
-    show_round(-2400, 4800);
-    show_round(-2401, 4800);
-    show_round(2399, 4799);
-    show_round(2400, 4799);
+fn below_zero() {
+    io::write_all(1, b"below zero, under half\n");
+    show_round(-1, 3);
+    show_round(-1, 4800);
+    show_round(-4, 2);
+    show_round(-6, 3);
+    show_round(-7, 3);
     show_round(-2399, 4799);
-    show_round(-2400, 4799);
-    show_round(12000, 4800);
-    show_round(-12000, 4800);
-    show_round(11999, 4800);
+    show_round(-2399, 4800);
     show_round(-11999, 4800);
+    show_round(-5471999762, 4799);
+    io::write_all(1, b"below zero, at half\n");
+    show_round(-1, 2);
+    show_round(-3, 2);
+    show_round(-5, 2);
+    show_round(-9, 2);
+    show_round(-2400, 4800);
+    show_round(-12000, 4800);
+    show_round(-5471997600, 4800);
+    show_round(-5471999999, 2);
+    io::write_all(1, b"below zero, over half\n");
+    show_round(-2, 3);
+    show_round(-8, 3);
+    show_round(-2400, 4799);
+    show_round(-2401, 4800);
+    show_round(-12001, 4800);
+    show_round(-5471999763, 4799);
+    show_round(-5471999999, 3);
 }
 
 fn limits() {
+    io::write_all(1, b"at the limits of 12 and past them\n");
     show_round(1, 0);
     show_round(1, 1);
     show_round(1, -1);
@@ -334,8 +363,8 @@ fn main() {
     lowest_terms();
     comparisons();
     comparisons_at_limits();
-    halves();
-    next_to_halves();
+    zero_or_above();
+    below_zero();
     limits();
     ends();
     slacks();

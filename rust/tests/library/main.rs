@@ -20,6 +20,7 @@ mod hard;
 mod laws;
 mod raw_calls;
 mod rounding;
+mod rounding_cases;
 mod slack;
 mod stack;
 mod station;

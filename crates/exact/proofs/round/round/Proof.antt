@@ -1,4 +1,4 @@
--- `exact::round::round` meets its contract: what is within the limits of a place is within what `nearest` takes.
+-- `exact::round::round` meets its contract: what is within the limits of a place is within what `ties_to_away` takes.
 use mathlib.Core.Path.{_≡_, sym, _∙_, ap, ap₂}
 use borrow.Author.Needs.{needs}
 use borrow.Author.Tests.{not-true, not-false}
@@ -25,17 +25,17 @@ returns c =
     let s = c .before .before .before in
     c .refused .ensures ∙ refuses (kept (s .args .num)) (kept (s .args .den)) (sym (c .before .before .within-places .ensures) ∙ not-true _ (c .before .if1 .taken)) ∙ plain s
 
-nearest-requires : tie.Need-nearest-requires
-nearest-requires c κs =
+ties-to-away-requires : tie.Need-ties-to-away-requires
+ties-to-away-requires c κs =
     let s = c .before .before in
     in-range (kept (s .args .num)) (kept (s .args .den)) (sym (c .before .within-places .ensures) ∙ not-false _ (c .if1 .left))
 
 returns-2 : tie.Need-returns-2
 returns-2 c =
     let s = c .before .before .before in
-    ap Whole (toZ-ofZ w64 (c .nearest .result) (record { sfits = c .nearest .ok }) ∙ c .nearest .ensures)
+    ap Whole (toZ-ofZ w64 (c .ties-to-away .result) (record { sfits = c .ties-to-away .ok }) ∙ c .ties-to-away .ensures)
     ∙ answers (kept (s .args .num)) (kept (s .args .den)) (sym (c .before .before .within-places .ensures) ∙ not-false _ (c .before .if1 .left))
     ∙ plain s
 
 pub round-spec : {M : Type 1} → statement M
-round-spec = tie.close (tie.spec within-places-requires refused-requires returns nearest-requires returns-2)
+round-spec = tie.close (tie.spec within-places-requires refused-requires returns ties-to-away-requires returns-2)
