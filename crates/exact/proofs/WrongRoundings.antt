@@ -15,7 +15,7 @@ use Rattle.exact.specs.declared.Rounded.the-variants.{Whole, Refused}
 use Rattle.exact.specs.Divide.{IsDivisor}
 use Rattle.exact.proofs.RoundingCases.{decided, rounded-ties-to-away, ties-to-away-one}
 use Rattle.exact.specs.Places.{withinPlaces}
-use Rattle.exact.specs.Round.{roundTiesToAway, wholeOf, refusal12, rounded}
+use Rattle.exact.specs.Round.{roundTiesToAway, numberOf, wholeOf, refusal12, rounded}
 use Rattle.exact.specs.RoundingCases.{TiesToAway, ByCases}
 
 -- a denominator of 0 is no denominator
@@ -34,6 +34,15 @@ numerator-high = refl
 numerator-low : rounded (negℤ (pos (placeNumMost + 1))) (pos 1) ≡ refusal12
 unfolding rounded withinPlaces
 numerator-low = refl
+
+-- a part that refuses everything, or answers as it did before
+refuses-all : rounded (pos 1) (pos 2) ≡ refusal12 → ⊥
+unfolding rounded withinPlaces
+refuses-all e = omega (arith, ap numberOf e)
+
+answers-as-before : rounded (pos 1) (pos 2) ≡ rounded (pos 3) (pos 2) → ⊥
+unfolding rounded withinPlaces roundTiesToAway
+answers-as-before e = omega (arith, ap natAbs (ap wholeOf e))
 
 -- ---- other rules than the six cases and IEEE 754's: a wrong whole number goes by neither
 

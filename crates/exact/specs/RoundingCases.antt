@@ -74,7 +74,7 @@ Bracketed num den = (natAbs num / natAbs den * natAbs den ≤ natAbs num) × (na
 abbrev pub off : ℤ → ℤ → ℤ → ℕ
 off num den z = natAbs (z *ℤ den -ℤ num)
 
--- IEEE 754's roundTiesToAway of z: no whole number is nearer, and another that is as near is of smaller magnitude
+-- IEEE 754's roundTiesToAway gives z: no whole number is nearer, and another that is as near is of smaller magnitude
 abbrev pub TiesToAway : ℤ → ℤ → ℤ → Type 0
 TiesToAway num den z = (y : ℤ) → (off num den z ≤ off num den y) × (off num den y ≡ off num den z → (y ≡ z) ⊎ (natAbs y < natAbs z))
 
