@@ -119,7 +119,7 @@ uint64_t dirmoog_slack(int64_t left_num, int64_t left_den,
  *
  * The text is comma-separated records, each ended by CRLF or LF; the last end may lack. A record has four fields: "label",
  * its number, wanted place, weight; or "gap", left, right, distance. A number is 1 to 9 digits, leading zeros allowed, with
- * a minus sign in front only in a wanted place or a distance. A blank weight is 1. Label numbers run 0, 1, 2; gaps are
+ * a minus sign in front only in a wanted place or a distance. A blank weight is 10. Label numbers run 0, 1, 2; gaps are
  * numbered in their order, and a gap may come before the labels it names. Quotes, blank lines, any other blank field and a
  * CR that is not just before a LF make a bad line.
  *

@@ -33,7 +33,8 @@ pub struct Lists<'a> {
     pub distance: &'a mut [i64],
 }
 
-/// Reads a sheet's text into the front of lent lists. The entries beyond stay; a refused text writes nothing.
+/// Reads a sheet's text into the front of lent lists. The entries beyond stay; a refused text writes nothing. A weight
+/// that is left blank in the text is read as 10; a weight of 0 is no blank one, and [`lay_out`](crate::lay_out) refuses it.
 ///
 /// ```
 /// use dirmoog::{read_sheet, Counts, Lists, Reading};
@@ -49,7 +50,7 @@ pub struct Lists<'a> {
 /// };
 /// let reading = read_sheet(b"label,0,0,1\r\nlabel,1,3,\r\ngap,0,1,6\r\n", &mut lists);
 /// assert_eq!(reading, Reading::Sheet(Counts { labels: 2, gaps: 1 }));
-/// assert_eq!((&wanted[..2], &weight[..2]), (&[0, 3][..], &[1, 1][..]));
+/// assert_eq!((&wanted[..2], &weight[..2]), (&[0, 3][..], &[1, 10][..]));
 /// assert_eq!((left[0], right[0], distance[0]), (0, 1, 6));
 /// ```
 pub fn read_sheet(text: &[u8], lists: &mut Lists<'_>) -> Reading {

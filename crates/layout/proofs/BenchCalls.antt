@@ -20,7 +20,7 @@ use Rattle.least_move.specs.Sheet.{Sheet, Proper, at-least, label}
 use Rattle.least_move.specs.Placement.{Feasible}
 use Rattle.least_move.specs.Multipliers.{Conditions}
 use Rattle.least_move.specs.Ring.{Ring}
-use Rattle.least_move.specs.Bench.{WrittenGap, Source, given, worked-out, Placed, Refused, Case, placed, refused, moved, bench, placement, multipliers, written, RightPlaced, RightRefused, OnlyMultipliers, passes, _to_of_}
+use Rattle.least_move.specs.Bench.{WrittenGap, Source, given, worked-out, Placed, Refused, Case, placed, refused, moved, P1, bench, placement, multipliers, written, RightPlaced, RightRefused, OnlyMultipliers, passes, _to_of_}
 use Rattle.least_move.specs.Bench as bench
 use Rattle.least_move.proofs.Bench.{Test, granted, _on_, each, bench-right}
 use Rattle.least_move.proofs.Places.{conditions-places}
@@ -78,11 +78,15 @@ bench-fits : (c : Case) → List·Memᴰ c bench → FitsCase c
 unfolding bench is-pass tableOf offenderBelow
 bench-fits = each case? bench .shows tt
 
-lent-passes : (f : Form) (s : bench.Written) {w : Written} → LentWith f s w → Fits f s → table (lend f s) w ≡ checked.Pass
-lent-passes f s l fits =
+-- what is lent to write with a sheet changes nothing in its table
+pub lent-table : (f : Form) (s : bench.Written) {w : Written} → LentWith f s w
+    → table (lend f s) w ≡ tableOf (labelCount (lend f s)) (gapCount (lend f s)) (ragged (lend f s) (length (s .carried))) false (rows (lend f s))
+lent-table f s l =
     ap₂ (λ (n : ℕ) (short : Bool). tableOf (labelCount (lend f s)) (gapCount (lend f s)) (ragged (lend f s) n) short (rows (lend f s)))
     (ap length (l .carried)) (l .room)
-    ∙ fits
+
+lent-passes : (f : Form) (s : bench.Written) {w : Written} → LentWith f s w → Fits f s → table (lend f s) w ≡ checked.Pass
+lent-passes f s l fits = lent-table f s l ∙ fits
 
 -- ---- both forms tell the sheet that is written
 
@@ -111,15 +115,18 @@ lend-same as-records s = λ j. record {
 -- ---- what a call comes to
 
 -- an entry of a list is in the list, and so in one that follows or precedes another
+entry : {A : Type 0} (xs : List A) (k : ℕ) (none : A) → k < length xs → List·Memᴰ (getD xs k none) xs
+entry [] k none h = absurd (omega arith)
+entry (x ∷ xs) zero none h = List·Memᴰ·head refl
+entry (x ∷ xs) (suc k) none h = List·Memᴰ·tail (entry xs k none (omega arith))
+
 entry-first : {A : Type 0} (xs ys : List A) (k : ℕ) (none : A) → k < length xs → List·Memᴰ (getD xs k none) (xs ++ ys)
 entry-first [] ys k none h = absurd (omega arith)
 entry-first (x ∷ xs) ys zero none h = List·Memᴰ·head refl
 entry-first (x ∷ xs) ys (suc k) none h = List·Memᴰ·tail (entry-first xs ys k none (omega arith))
 
 entry-second : {A : Type 0} (xs ys : List A) (k : ℕ) (none : A) → k < length ys → List·Memᴰ (getD ys k none) (xs ++ ys)
-entry-second [] (y ∷ ys) zero none h = List·Memᴰ·head refl
-entry-second [] (y ∷ ys) (suc k) none h = List·Memᴰ·tail (entry-second [] ys k none (omega arith))
-entry-second [] [] k none h = absurd (omega arith)
+entry-second [] ys k none h = entry ys k none h
 entry-second (x ∷ xs) ys k none h = List·Memᴰ·tail (entry-second xs ys k none h)
 
 module _ (c : Placed) (right : RightPlaced c) (fits : FitsBoth (c .sheet)) where
@@ -199,6 +206,10 @@ answered-so (placed c) right fits = placed-so c right fits
 answered-so (refused c) right fits = refused-so c right fits
 answered-so (moved c) right fits = (placed-so (c .before) (right .before) (fits .0), placed-so (c .after) (right .after) (fits .1))
 
--- every call on a sheet of the bench that keeps its promise answers as document 01 says
+-- every call on a sheet of the bench that keeps its promise answers as documents 01 and 02 say
 pub bench-answers : (c : Case) → List·Memᴰ c bench → AnsweredSo c
 bench-answers c m = answered-so c (bench-right c m) (bench-fits c m)
+
+-- the same of the case that stands at a number of the list, from 0
+pub case-answers : (k : ℕ) → k < length bench → AnsweredSo (getD bench k (placed P1))
+case-answers k h = bench-answers (getD bench k (placed P1)) (entry bench k (placed P1) h)

@@ -1,8 +1,9 @@
--- The wrong parts of document 01, "What is owed by each public entry", 3: each breaks the promise of a layout call.
+-- The wrong parts of document 01, "What is owed by each public entry", 3, and of document 02, Item 3: each breaks the
+-- promise of a layout call.
 use Prim.Native.Nat.{ℕ, _≤_, _<_}
 use mathlib.Core.Path.{_≡_, refl, sym, _∙_, ap}
 use mathlib.Core.Logic.{_≢_}
-use mathlib.Core.List.{List, [], _∷_, List·Memᴰ·head, List·Memᴰ·tail}
+use mathlib.Core.List.{List, [], _∷_}
 use native.Mathlib.Omega.{arith}
 use borrow.Author.Tests.{le-leb, lt-leb}
 use lib.Dec.{lit<}
@@ -14,7 +15,7 @@ use Rattle.ground.specs.declared.Refusal.{Refusal}
 use Rattle.ground.specs.declared.Label.{Label}
 use Rattle.least_move.specs.Sheet.{label}
 use Rattle.least_move.specs.Placement.{Placement}
-use Rattle.least_move.specs.Bench.{placed, refused, bench, placement, P1, P2, P5, P7}
+use Rattle.least_move.specs.Bench.{bench, placement, P1, P2, P5, P7, mixed}
 use Rattle.least_move.specs.Bench as bench
 use Rattle.ground.specs.declared.Answer.{Answer}
 use Rattle.ground.specs.declared.Answer.the-variants.{Placed, Refused}
@@ -22,37 +23,32 @@ use Rattle.sheet_checks.specs.Lent.{LentGaps, lists, records, Read, Written, la
 use Rattle.layout.specs.Part.{filledPart}
 use Rattle.layout.specs.Promise.{Promise}
 use Rattle.layout.specs.BenchCalls.{Form, as-lists, as-records, lend, LentWith, EachCall, PlacedSo, RefusedSo}
-use Rattle.ground.specs.Answers.{ringLengthOf}
+use Rattle.ground.specs.Answers.{refusal, ringLengthOf}
 use Rattle.sheet_checks.specs.declared.Checked.the-variants as checked
-use Rattle.sheet_checks.specs.Refusals.{table}
+use Rattle.sheet_checks.specs.Refusals.{offenderBelow, tableOf, table}
 use Rattle.sheet_checks.proofs.Passed.{not-pass}
-use Rattle.layout.proofs.Facts.{not-both, placed-passes}
-use Rattle.layout.proofs.BenchCalls.{bench-answers}
+use Rattle.layout.proofs.Facts.{not-both, placed-passes, refused-by-table}
+use Rattle.layout.proofs.BenchCalls.{case-answers, lent-table}
 
 -- ---- what calls on P1, P2, P5 and P7 come to
 
 pub P1-lays : EachCall (P1 .sheet) (PlacedSo P1)
 unfolding bench
-P1-lays = bench-answers (placed P1) (List·Memᴰ·head refl)
+P1-lays = case-answers 0 (lit< tt)
 
 pub P2-lays : EachCall (P2 .sheet) (PlacedSo P2)
 unfolding bench
-P2-lays = bench-answers (placed P2) (List·Memᴰ·tail (List·Memᴰ·head refl))
+P2-lays = case-answers 1 (lit< tt)
 
 -- P5, "carried record marked"
 pub P5-lays : EachCall (P5 .sheet) (PlacedSo P5)
 unfolding bench
-P5-lays =
-    bench-answers (placed P5)
-    (List·Memᴰ·tail (List·Memᴰ·tail (List·Memᴰ·tail (List·Memᴰ·tail (List·Memᴰ·tail (List·Memᴰ·head refl))))))
+P5-lays = case-answers 5 (lit< tt)
 
 -- P7, which has a ring: of this call `makes-up-ring` speaks
 pub P7-rings : EachCall (P7 .sheet) (RefusedSo P7)
 unfolding bench
-P7-rings =
-    bench-answers (refused P7)
-    (List·Memᴰ·tail (List·Memᴰ·tail (List·Memᴰ·tail (List·Memᴰ·tail (List·Memᴰ·tail (List·Memᴰ·tail (List·Memᴰ·tail
-    (List·Memᴰ·head refl))))))))
+P7-rings = case-answers 7 (lit< tt)
 
 -- buffers of zeros for two labels, with a sheet's carried record
 abbrev pub zeros : bench.Written → Written
@@ -152,6 +148,16 @@ hands-out-again part f f′ w w′ l l′ again keeps =
 -- a sheet that breaks a rule is called placed
 pub called-placed : {r : Read} {w after : Written} {q : Refusal} → table r w ≡ checked.Refused q → ¬ (Promise r w Placed after)
 called-placed breaks promise = not-pass (sym breaks ∙ placed-passes promise refl)
+
+-- "in the text only" (document 02, Item 3): the sheet with weight 0 where the text's is blank
+abbrev pub zero-weight : bench.Written
+zero-weight = record { wants = mixed .sheet .wants; weights = pos 0 ∷ pos 1 ∷ []; gaps = mixed .sheet .gaps; carried = mixed .sheet .carried }
+
+-- a lent weight of 0 does not count ten: the call is refused with 6 at its label, and nothing is written
+pub lent-zero-refused : {f : Form} {w after : Written} {a : Answer} → LentWith f zero-weight w → Promise (lend f zero-weight) w a after → (a ≡ refusal 6 0 0) × (after ≡ w)
+unfolding tableOf offenderBelow
+lent-zero-refused {f = as-lists} l promise = refused-by-table promise (lent-table as-lists zero-weight l)
+lent-zero-refused {f = as-records} l promise = refused-by-table promise (lent-table as-records zero-weight l)
 
 -- ---- the part of the ring buffer that is handed back
 

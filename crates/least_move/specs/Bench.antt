@@ -1,5 +1,5 @@
--- The sheets on the bench (document 01): its cases P1 to P10 in one list, in its order,
--- and what it is for a case to be right.
+-- The sheets on the bench: document 01's cases P1 to P10 in its order, then the mixed sheet of document 02, Item 3, in one
+-- list, and what it is for a case to be right.
 use Prim.Native.Nat.{ℕ, suc, _<_}
 use mathlib.Core.Path.{_≡_}
 use mathlib.Core.Bool.{cond}
@@ -190,6 +190,16 @@ P10 =
 abbrev pub P4-moved : Moved
 P4-moved = record { before = P3; after = P4; label = 0; want-by = pos 1; places-by = pos 1 over 2 }
 
+-- document 02, Item 3: wants 0 and 11, first weight blank, which counts ten, second 1, gap 22, "giving -1 and 21"
+abbrev pub mixed : Placed
+mixed =
+    record {
+      sheet = sheet (pos 0 ∷ pos 11 ∷ []) (pos 10 ∷ pos 1 ∷ []) (0 to 1 of pos 22 ∷ []);
+      places = minus 1 over 1 ∷ pos 21 over 1 ∷ [];
+      multipliers = pos 20 over 1 ∷ [];
+      source = worked-out;
+    }
+
 unfoldable pub bench : List Case
 bench =
     placed P1
@@ -203,6 +213,7 @@ bench =
     ∷ placed P8
     ∷ placed P9
     ∷ refused P10
+    ∷ placed mixed
     ∷ []
 
 -- ---- what it is for a case to be right

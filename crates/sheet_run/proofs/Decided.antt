@@ -26,7 +26,7 @@ use Rattle.text_reading.specs.declared.Reading.{Reading}
 use Rattle.text_reading.specs.declared.Reading.the-variants.{Sheet, Refused}
 use Rattle.text_reading.specs.Texts.{Lists, reading}
 use Rattle.text_listing.specs.Listing.{listing, refusedRecord}
-use Rattle.sheet_run.specs.Run.{LaidFrom, PrintedFor, Run, blank, lent, listableRead, sheetRead}
+use Rattle.sheet_run.specs.Run.{LaidFrom, PrintedFor, Run, zeroLists, lent, listableRead, sheetRead}
 use Rattle.sheet_run.proofs.Refusals.{SmallReading, small-reading}
 
 -- a refusal's ring is not printed
@@ -35,7 +35,7 @@ unfolding refusedRecord
 ring-unprinted number place ring ring′ = refl
 
 -- the first numbers of two lists that agree on them
-pub first-same : (n : ℕ) (xs ys : List ℤ) → n ≤ length xs → n ≤ length ys → ((k : ℕ) → k < n → getD xs k (pos 0) ≡ getD ys k (pos 0)) → take n xs ≡ take n ys
+first-same : (n : ℕ) (xs ys : List ℤ) → n ≤ length xs → n ≤ length ys → ((k : ℕ) → k < n → getD xs k (pos 0) ≡ getD ys k (pos 0)) → take n xs ≡ take n ys
 first-same n xs ys hx hy same =
     ext-getD (pos 0) (take n xs) (take n ys) (length-take-le n xs hx ∙ sym (length-take-le n ys hy))
     (λ i h.
@@ -112,7 +112,7 @@ module _ (c : Counts) (l : Lists) (few : c .labels ≤ 48) (known : c .labels �
 -- the whole: two runs on one text print the same, whatever stood in their buffers, so a text has one listing
 pub run-same : {text before before′ after after′ : List ℕ} {n n′ : ℕ} → Run text before n after → Run text before′ n′ after′ → take n after ≡ take n′ after′
 run-same {text} {before} {before′} {after} {after′} {n} {n′} one two =
-    go (reading text blank .answer) (reading text blank .lists) (small-reading text blank) (one .prints) (two .prints)
+    go (reading text zeroLists .answer) (reading text zeroLists .lists) (small-reading text zeroLists) (one .prints) (two .prints)
   where
     go : (r : Reading) (l : Lists) → SmallReading r l → PrintedFor r l (take n after) → PrintedFor r l (take n′ after′) → take n after ≡ take n′ after′
     go (Refused x) l s a b = a ∙ sym b

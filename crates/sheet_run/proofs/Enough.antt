@@ -25,7 +25,7 @@ use Rattle.text_reading.specs.declared.Reading.the-variants.{Sheet, Refused}
 use Rattle.text_reading.specs.Texts.{Lists, reading}
 use Rattle.text_listing.specs.Listing.{listing, refusedRecord, listingRoom}
 use Rattle.text_listing.proofs.Size.{AllFit, length-refused-record, length-sheet-records}
-use Rattle.sheet_run.specs.Run.{blank, lent, listableRead, PrintedFor, sheetRead}
+use Rattle.sheet_run.specs.Run.{zeroLists, lent, listableRead, PrintedFor, sheetRead}
 use Rattle.sheet_run.proofs.Refusals.{Small, SmallReading, small-reading, small-answer}
 
 pub take-most : {A : Type 0} (n : ℕ) (l : List A) → length (take n l) ≤ n
@@ -71,8 +71,8 @@ module _ (c : Counts) (l : Lists) (w after : Written) (few : c .labels ≤ 48) (
   laid-out-most answer.Placed p = placed-most (placed-accepted p refl)
 
 -- what is printed for any text has at most 24,576 bytes
-pub printed-most : (text printed : List ℕ) → PrintedFor (reading text blank .answer) (reading text blank .lists) printed → length printed ≤ listingRoom
-printed-most text printed h = go (reading text blank .answer) (reading text blank .lists) (small-reading text blank) h
+pub printed-most : (text printed : List ℕ) → PrintedFor (reading text zeroLists .answer) (reading text zeroLists .lists) printed → length printed ≤ listingRoom
+printed-most text printed h = go (reading text zeroLists .answer) (reading text zeroLists .lists) (small-reading text zeroLists) h
   where
     go : (r : Reading) (l : Lists) → SmallReading r l → PrintedFor r l printed → length printed ≤ listingRoom
     go (Refused x) l s e = rw e (refused-most x s)

@@ -3,6 +3,7 @@ pub mod Enough
 pub mod Printing
 pub mod Runs
 pub mod Decided
+pub mod PlacedRuns
 pub mod Document
 pub mod Slacks
 pub mod WrongRuns

@@ -15,7 +15,7 @@ use Rattle.text_reading.specs.declared.Reading.the-variants.{Sheet, Refused}
 use Rattle.text_reading.specs.Texts.{Lists, Done}
 use Rattle.text_reading.specs.Parts.{ReadInto}
 use Rattle.text_listing.specs.Listing.{Listable, Within, listing, listingRoom, refusedRecord}
-use Rattle.sheet_run.specs.Run.{LaidOut, PrintedFor, Run, blank, lentOver, listableRead, zeros}
+use Rattle.sheet_run.specs.Run.{LaidOut, PrintedFor, Run, zeroLists, lentOver, listableRead, zeros}
 use Rattle.sheet_run.specs.Steps.{Holds, Answered, Printed, PrintedRead}
 use Rattle.sheet_run.proofs.Refusals.{SmallReading, small-reading}
 use Rattle.sheet_run.proofs.Enough.{laid-out-most, refused-most, take-most}
@@ -54,9 +54,9 @@ module _ (c : Counts) (l : Lists) (a : Answer) (nums dens : List ℤ) (given : A
 
 -- ---- the text
 
-module _ (text : List ℕ) (r : Reading) (l : Lists) (into : ReadInto text blank r l) where
+module _ (text : List ℕ) (r : Reading) (l : Lists) (into : ReadInto text zeroLists r l) where
   small : SmallReading r l
-  small = subst (λ (d : Done). SmallReading (d .answer) (d .lists)) (sym into) (small-reading text blank)
+  small = subst (λ (d : Done). SmallReading (d .answer) (d .lists)) (sym into) (small-reading text zeroLists)
 
   pub refusal-most : (x : Refusal) → r ≡ Refused x → length (refusedRecord x) ≤ listingRoom
   refusal-most x e = refused-most x (subst (λ (q : Reading). SmallReading q l) e small)

@@ -1,17 +1,25 @@
--- Wrong runs of document 01's text: what the promise of a run says against each. Nothing cites them.
+-- Wrong runs of document 01's text, of document 02's mixed sheet (Item 3) and of a text with a weight of zero: what the
+-- promise of a run says against each. Nothing cites them.
 use Prim.Native.Nat.{ℕ}
-use mathlib.Core.Path.{_≡_, sym, ap, _∙_}
+use mathlib.Core.Path.{_≡_, refl, sym, ap, _∙_}
 use mathlib.Core.List.{List, [], _∷_, _++_}
 use native.Mathlib.Omega.{arith}
 use lib.ListN.{getD, take}
 use lib.IntN.{pos, negsuc}
+use Rattle.ground.specs.declared.Answer.{Answer}
 use Rattle.ground.specs.declared.Answer.the-variants.{Placed}
+use Rattle.sheet_checks.specs.Refusals.{offenderBelow, tableOf}
+use Rattle.layout.proofs.Facts.{refused-by-table}
 use Rattle.text_rows.specs.Numeral.{digitsOf}
-use Rattle.text_reading.proofs.Examples.{document-text}
-use Rattle.text_listing.specs.Listing.{listing, placeRecord, placeRecords}
+use Rattle.text_rows.specs.Bytes.{bytes}
+use Rattle.text_reading.specs.Texts.{countsOf, filled, reading, roomFor}
+use Rattle.text_reading.proofs.Examples.{document-text, mixed-text}
+use Rattle.text_reading.proofs.WrongReadings.{zero-text, zero-sheet, zero-typed}
+use Rattle.text_listing.specs.Listing.{listing, placeRecord, placeRecords, refusedRecord}
 use Rattle.text_listing.proofs.Samples.{first-record, second-record, slack-record}
-use Rattle.sheet_run.specs.Run.{Run}
-use Rattle.sheet_run.proofs.Document.{document-prints}
+use Rattle.sheet_run.specs.Run.{LaidOut, Run, zeroLists, listableRead}
+use Rattle.sheet_run.proofs.PlacedRuns.{laid-out}
+use Rattle.sheet_run.proofs.Document.{document-prints, mixed-prints}
 
 -- the listing is written, and no byte of it is told
 pub nothing-told : {before after : List ℕ} → Run document-text before 0 after → ⊥
@@ -42,4 +50,28 @@ slack-missing r missing =
 pub slack-first : {before after : List ℕ} {n : ℕ} → Run document-text before n after → take n after ≡ slack-record ++ first-record ++ second-record → ⊥
 slack-first r early =
     let first : _≡_ {A = ℕ} 115 112 = ap (λ (l : List ℕ). getD l 0 0) (sym early ∙ document-prints r) in
+    omega arith
+
+-- a blank weight counts one: the places of document 02's mixed sheet would be -11/2 and 33/2
+pub blank-counts-one :
+    {before after : List ℕ} {n : ℕ} → Run mixed-text before n after →
+    take n after ≡ bytes "place,0,-11,2,-6\r\nplace,1,33,2,17\r\nslack,0,0,1\r\n" → ⊥
+blank-counts-one r one =
+    let tenth : _≡_ {A = ℕ} 49 44 = ap (λ (l : List ℕ). getD l 10 0) (sym one ∙ mixed-prints r) in
+    omega arith
+
+-- a weight of zero that is typed does not count ten: it is refused with 6, as a lent one is
+pub typed-zero-refused : {before after : List ℕ} {n : ℕ} → Run zero-text before n after → take n after ≡ bytes "refused,6,0\r\n"
+unfolding reading roomFor filled tableOf offenderBelow refusedRecord digitsOf
+typed-zero-refused {after = after} {n = n} r =
+    laid .listed ∙ ap (λ (a : Answer). listing a (listableRead (countsOf zero-sheet) (filled zero-sheet zeroLists) (laid .after))) (refused-by-table (laid .promise) refl .0)
+  where
+    laid : LaidOut (countsOf zero-sheet) (filled zero-sheet zeroLists) (take n after)
+    laid = laid-out zero-sheet (rw zero-typed) r
+
+-- a blank weight is refused, as a lent weight of zero is
+pub blank-refused :
+    {before after : List ℕ} {n : ℕ} → Run mixed-text before n after → take n after ≡ bytes "refused,6,0\r\n" → ⊥
+blank-refused r told =
+    let first : _≡_ {A = ℕ} 114 112 = ap (λ (l : List ℕ). getD l 0 0) (sym told ∙ mixed-prints r) in
     omega arith

@@ -20,8 +20,8 @@ abbrev pub zeros : ℕ → List ℤ
 zeros n = replicate n (pos 0)
 
 -- the lists that a run reads into: zeros, with room for every sheet
-abbrev pub blank : Lists
-blank = record { wanted = zeros labelsMost; weight = zeros labelsMost; left = replicate gapsMost 0; right = replicate gapsMost 0; distance = zeros gapsMost }
+abbrev pub zeroLists : Lists
+zeroLists = record { wanted = zeros labelsMost; weight = zeros labelsMost; left = replicate gapsMost 0; right = replicate gapsMost 0; distance = zeros gapsMost }
 
 -- the sheet that was read: the first entries, one per label or gap
 abbrev pub sheetRead : Counts → Lists → Read
@@ -77,5 +77,5 @@ PrintedFor (Sheet c) l printed = LaidOut c l printed
 -- the whole of a run: the first n bytes of the buffer are what is printed for the text, and the rest stays
 pub record Run (text before : List ℕ) (n : ℕ) (after : List ℕ) : Type 0 where
   pub within : n ≤ listingRoom
-  pub prints : PrintedFor (reading text blank .answer) (reading text blank .lists) (take n after)
+  pub prints : PrintedFor (reading text zeroLists .answer) (reading text zeroLists .lists) (take n after)
   pub rest : Filled n before after

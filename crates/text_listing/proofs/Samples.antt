@@ -1,5 +1,5 @@
--- The listings of document 01, "Sheet text": the whole of one run, a refused sheet, and a sheet of no labels; and one
--- whose gaps are not all tight.
+-- The listings of document 01, "Sheet text": the whole of one run, a refused sheet, and a sheet of no labels; that of
+-- document 02, Item 3; and one whose gaps are not all tight.
 use mathlib.Core.Path.{_≡_, refl}
 use mathlib.Core.List.{List, [], _∷_, _++_}
 use Prim.Native.Nat.{ℕ}
@@ -35,6 +35,23 @@ run = record {
 pub run-listed : listing Placed run ≡ first-record ++ second-record ++ slack-record
 unfolding placeRecords placeRecord slackRecords slackRecord printedSlack slackAnswer lowestOf euclid digitsOf rounded roundTiesToAway withinPlaces
 run-listed = refl
+
+-- document 02, Item 3: -1 and 21, 22 apart as the gap asks
+abbrev pub mixed-places : Listable
+mixed-places = record {
+  place-num = negsuc 0 ∷ pos 21 ∷ [];
+  place-den = pos 1 ∷ pos 1 ∷ [];
+  left = 0 ∷ [];
+  right = 1 ∷ [];
+  distance = pos 22 ∷ [];
+}
+
+abbrev pub mixed-listing : List ℕ
+mixed-listing = bytes "place,0,-1,1,-1\r\nplace,1,21,1,21\r\nslack,0,0,1\r\n"
+
+pub mixed-listed : listing Placed mixed-places ≡ mixed-listing
+unfolding placeRecords placeRecord slackRecords slackRecord printedSlack slackAnswer lowestOf euclid digitsOf rounded roundTiesToAway withinPlaces
+mixed-listed = refl
 
 -- the places for wants 0, 1, 40 and 41: two gaps are tight, and the third has 37 sixths to spare
 abbrev pub pairs : Listable

@@ -1,4 +1,4 @@
--- Document 01's own run, read by computation.
+-- The texts of document 01's own run and of document 02's mixed sheet (Item 3), read by computation.
 use Prim.Native.Nat.{ℕ}
 use mathlib.Core.Path.{_≡_, refl}
 use mathlib.Core.List.{List, [], _∷_}
@@ -19,12 +19,27 @@ document-sheet = record {
   gaps = record { left = 0; right = 1; distance = pos 6 } ∷ [];
 }
 
--- the text is read as its sheet
+-- document 02, Item 3: "wants 0 and 11, first weight blank, second 1, gap 22"
+abbrev pub mixed-text : List ℕ
+mixed-text = bytes "label,0,0,\r\nlabel,1,11,1\r\ngap,0,1,22\r\n"
+
+-- its blank weight counts ten
+abbrev pub mixed-sheet : Typed
+mixed-sheet = record {
+  labels = record { wanted = pos 0; weight = pos 10 } ∷ record { wanted = pos 11; weight = pos 1 } ∷ [];
+  gaps = record { left = 0; right = 1; distance = pos 22 } ∷ [];
+}
+
+-- the texts are read as their sheets
 pub document-run : outcome document-text ≡ sheet document-sheet
 unfolding lines fields allDigits valueOf number signed weightOf same rowOf readFrom
 document-run = refl
 
--- and it is the text that is written for that sheet
+pub mixed-read : outcome mixed-text ≡ sheet mixed-sheet
+unfolding lines fields allDigits valueOf number signed weightOf same rowOf readFrom
+mixed-read = refl
+
+-- document 01's is the text that is written for its sheet
 pub document-printed : printed document-sheet ≡ document-text
 unfolding labelRecords gapRecords labelRecord gapRecord digitsOf
 document-printed = refl

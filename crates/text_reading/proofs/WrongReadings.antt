@@ -1,7 +1,7 @@
--- Texts that a wrong reader would answer otherwise (document 01, "Sheet text" and "Refusal table").
+-- Texts that a wrong reader would answer otherwise (document 01, "Sheet text" and "Refusal table"; document 02, Item 3).
 use Prim.Native.Nat.{ℕ, suc}
 use mathlib.Core.Path.{_≡_, refl, sym}
-use mathlib.Core.List.{List}
+use mathlib.Core.List.{List, [], _∷_}
 use native.Mathlib.Omega.{arith}
 use lib.ListN.{length, replicate}
 use lib.IntN.{pos}
@@ -9,7 +9,7 @@ use Rattle.text_rows.specs.Bytes.{bytes}
 use Rattle.text_rows.specs.Lines.{lines, fields}
 use Rattle.text_rows.specs.Numeral.{allDigits, valueOf, number, signed, weightOf}
 use Rattle.text_rows.specs.Taking.{same, rowOf}
-use Rattle.text_reading.specs.Texts.{textMost, bad-line, readFrom, outcome, Lists, roomFor, refusedWith, judged, reading}
+use Rattle.text_reading.specs.Texts.{textMost, Typed, bad-line, sheet, readFrom, outcome, Lists, roomFor, refusedWith, judged, reading}
 use Rattle.text_reading.specs.Readings.{refusal}
 use Rattle.text_reading.proofs.Examples.{document-text}
 use Rattle.text_reading.proofs.ReadLaws.{long-text, short-text}
@@ -23,6 +23,27 @@ bad-line-told = refl
 pub lone-return : outcome (bytes "label,0,0,1\r\nlabel,1,3,1\r") ≡ bad-line 2
 unfolding lines fields allDigits valueOf number signed weightOf same rowOf readFrom
 lone-return = refl
+
+-- a CR before a LF ends the line, so the weight before it is blank, and counts ten: not one, not zero
+pub blank-before-crlf : outcome (bytes "label,0,0,\r\n") ≡ sheet (record { labels = record { wanted = pos 0; weight = pos 10 } ∷ []; gaps = [] })
+unfolding lines fields allDigits valueOf number signed weightOf same rowOf readFrom
+blank-before-crlf = refl
+
+-- a CR alone at the end of the input is no blank weight
+pub return-for-weight : outcome (bytes "label,0,0,\r") ≡ bad-line 1
+unfolding lines fields allDigits valueOf number signed weightOf same rowOf readFrom
+return-for-weight = refl
+
+-- a weight of zero that is typed is no blank one: it is read as zero
+abbrev pub zero-text : List ℕ
+zero-text = bytes "label,0,0,0\r\n"
+
+abbrev pub zero-sheet : Typed
+zero-sheet = record { labels = record { wanted = pos 0; weight = pos 0 } ∷ []; gaps = [] }
+
+pub zero-typed : outcome zero-text ≡ sheet zero-sheet
+unfolding lines fields allDigits valueOf number signed weightOf same rowOf readFrom
+zero-typed = refl
 
 -- 16,385 bytes are refused with 11, whatever they are
 pub one-byte-more : (text : List ℕ) (b : Lists) → length text ≡ suc textMost → reading text b ≡ refusedWith 11 0 b

@@ -60,7 +60,7 @@ module _ (n : ℕ) (small : n < 1000000000) where
 
 -- ---- signs and blanks
 
-pub weight-blank : (f : List ℕ) → length f ≡ 0 → some (pos 1) ≡ weightOf f
+pub weight-blank : (f : List ℕ) → length f ≡ 0 → some (pos 10) ≡ weightOf f
 unfolding weightOf
 weight-blank [] e = refl
 weight-blank (b ∷ bs) e = absurd (omega arith)

@@ -1,4 +1,4 @@
--- Lines that a wrong reader would take for something else, by computation (document 01, "Sheet text").
+-- Lines that a wrong reader would take for something else, by computation (document 01, "Sheet text"; document 02, Item 3).
 use mathlib.Core.Path.{_≡_, refl}
 use mathlib.Core.List.{[], _∷_}
 use lib.IntN.{pos, negsuc}
@@ -23,10 +23,15 @@ feeds-end = refl
 
 -- ---- records that are taken
 
--- places and distances may have a minus sign, and a blank weight is 1
-pub good-label : taken 0 (bytes "label,0,-7,") ≡ Good (Label (record { wanted = negsuc 6; weight = pos 1 }))
+-- places and distances may have a minus sign, and a blank weight is 10 (document 02, Item 3)
+pub good-label : taken 0 (bytes "label,0,-7,") ≡ Good (Label (record { wanted = negsuc 6; weight = pos 10 }))
 unfolding fields allDigits valueOf number signed weightOf same rowOf
 good-label = refl
+
+-- it is as if the ten were typed
+pub blank-as-ten : taken 0 (bytes "label,0,-7,") ≡ taken 0 (bytes "label,0,-7,10")
+unfolding fields allDigits valueOf number signed weightOf same rowOf
+blank-as-ten = refl
 
 -- a gap may come before the labels it names
 pub good-gap : taken 0 (bytes "gap,1,0,-20") ≡ Good (Gap (record { left = 1; right = 0; distance = negsuc 19 }))
@@ -39,6 +44,11 @@ good-gap = refl
 pub blank-place : taken 0 (bytes "label,0,,1") ≡ Bad
 unfolding fields allDigits valueOf number signed weightOf same rowOf
 blank-place = refl
+
+-- a space is no blank weight
+pub space-for-weight : taken 0 (bytes "label,0,0, ") ≡ Bad
+unfolding fields allDigits valueOf number signed weightOf same rowOf
+space-for-weight = refl
 
 -- a weight has no minus sign
 pub weight-below-zero : taken 0 (bytes "label,0,0,-1") ≡ Bad

@@ -49,9 +49,9 @@ signed (b ∷ bs) =
     cond (eqb b minus) (optionMap (λ n. negℤ (pos n)) (number bs))
     (optionMap pos (number (b ∷ bs)))
 
--- "A blank weight is 1"
+-- "From this release a blank weight is 10, in the text only" (document 02, Item 3)
 unfoldable pub weightOf : List ℕ → Option ℤ
-weightOf [] = some (pos 1)
+weightOf [] = some (pos 10)
 weightOf (b ∷ bs) = optionMap pos (number (b ∷ bs))
 
 -- the decimal digits of a number, at most so many

@@ -79,12 +79,12 @@ pub(crate) fn signed(field: &[u8]) -> Integer
     unsigned(field)
 }
 
-// A weight: digits, or 1 where it is blank.
+// A weight: digits, or 10 where it is blank.
 pub(crate) fn weight(field: &[u8]) -> Integer
     ensures { λ r. ⌜ r ≡ integer (numeral.weightOf (before field)) ⌝ }
 {
     if field.len() == 0 {
-        return Integer::Value(1);
+        return Integer::Value(10);
     }
     unsigned(field)
 }

@@ -1,4 +1,4 @@
-//! The sheets on the bench, with the answers that document 01 gives.
+//! The sheets on the bench, with the answers that documents 01 and 02 give.
 use crate::call::{check_call, refused_at, Lent, Outcome};
 use crate::fraction::Fraction;
 use crate::sheet::Sheet;
@@ -56,6 +56,16 @@ fn limits_of_the_table() {
     refused(&plain(&[], &[(0, 0, 0)]), 7, 0);
     refused(&plain(&[0], &[(0, 0, 0), (0, 0, -20_001)]), 8, 1);
     placed(&plain(&[], &[]), &[]);
+}
+
+/// Document 02, Item 3: the sheet of a text whose first weight is blank. A lent weight of 0 is refused, as ever.
+#[test]
+fn mixed_weights() {
+    let mut mixed = plain(&[0, 11], &[(0, 1, 22)]);
+    mixed.weight[0] = 10;
+    placed(&mixed, &[(-1, 1), (21, 1)]);
+    mixed.weight[0] = 0;
+    refused(&mixed, 6, 0);
 }
 
 /// The solver beside the library is held to the cases P of the list too.

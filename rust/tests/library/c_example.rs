@@ -61,6 +61,11 @@ fn runs() {
     );
     let ring = b"label,0,0,\nlabel,1,0,\ngap,0,1,5\ngap,1,0,-4\n";
     assert_eq!(printed(&program, ring), "refused,9,0\r\n");
+    let mixed = b"label,0,0,\nlabel,1,11,1\ngap,0,1,22\n";
+    assert_eq!(
+        printed(&program, mixed),
+        "place,0,-1,1,-1\r\nplace,1,21,1,21\r\nslack,0,0,1\r\n"
+    );
     assert_eq!(printed(&program, b"label,0,0,0"), "refused,6,0\r\n");
     assert_eq!(printed(&program, b"label,0,0,1\n\n"), "refused,10,2\r\n");
     assert_eq!(printed(&program, &[b'\n'; 16_385]), "refused,11,0\r\n");

@@ -55,15 +55,25 @@ pub fn sheet(random: &mut Random, kind: Kind, labels: RangeInclusive<i64>) -> Sh
     sheet
 }
 
-/// Labels whose wants and weights are of one of several sizes.
+/// What a blank weight counts in the text.
+pub const BLANK_WEIGHT: i64 = 10;
+
+/// Labels whose wants and weights are of one of several sizes; in some sheets half of the labels weigh as a blank weight
+/// counts.
 pub fn labels_only(random: &mut Random, labels: usize) -> Sheet {
     let mut sheet = Sheet::default();
     let (want, weight) = (
         random.pick(&[3, 50, 3_000, 200_000]),
         random.pick(&[1, 3, 100]),
     );
+    let blanks = random.once_in(3);
     for _ in 0..labels {
-        sheet.label(random.between(-want, want), random.between(1, weight));
+        let weight = if blanks && random.once_in(2) {
+            BLANK_WEIGHT
+        } else {
+            random.between(1, weight)
+        };
+        sheet.label(random.between(-want, want), weight);
     }
     sheet
 }

@@ -76,6 +76,17 @@ fn slacks_are_listed() {
     fed(&[text.as_bytes()], &listing);
 }
 
+/// Document 02, Item 3: a blank weight counts ten.
+#[test]
+fn mixed_weights_are_listed() {
+    let sheet = concat!(env!("CARGO_MANIFEST_DIR"), "/../sheets/mixed-weights.csv");
+    let mixed = std::fs::read(sheet).expect("the sheet");
+    fed(
+        &[&mixed],
+        "place,0,-1,1,-1\r\nplace,1,21,1,21\r\nslack,0,0,1\r\n",
+    );
+}
+
 #[test]
 fn a_short_read_is_no_end() {
     let (first, second) = SHEET.split_at(20);

@@ -1,7 +1,7 @@
 //! The library's reader beside the second one.
 use super::reader::{read, Refused};
 use super::typed::{damage, typed};
-use crate::generate::{sheet, KINDS};
+use crate::generate::{sheet, BLANK_WEIGHT, KINDS};
 use crate::generated::Case;
 use crate::random::Random;
 use crate::sheet::Sheet;
@@ -157,7 +157,7 @@ fn many_records() {
         (0, 0, 0),
     ] {
         let mut sheet = Sheet::default();
-        (0..labels).for_each(|i| sheet.label(i, 1));
+        (0..labels).for_each(|i| sheet.label(i, [1, BLANK_WEIGHT][i as usize % 2]));
         (0..gaps).for_each(|_| sheet.gap(0, 0, 0));
         let text = typed(&mut random, &sheet);
         let room = lengths(&sheet).map(|length| length + 1);
@@ -181,7 +181,7 @@ fn longest_text() {
     assert_eq!(check(&b"gap,0,0,00000\n".repeat(1_170), &lists), 2);
 }
 
-/// Single lines, each with what document 01 says of it.
+/// Single lines, each with what document 01, and for blank weights document 02, says of it.
 #[test]
 fn single_lines() {
     let good: [&[u8]; 9] = [
@@ -195,7 +195,7 @@ fn single_lines() {
         b"gap,0,0,0\ngap,0,0,0",
         b"gap,0,0,-0\r\ngap,0,0,0\n",
     ];
-    let bad: [&[u8]; 20] = [
+    let bad: [&[u8]; 21] = [
         b"label,1,5,2",
         b"label,0,5",
         b"label,0,5,2,",
@@ -204,6 +204,7 @@ fn single_lines() {
         b"Label,0,5,2",
         b"label ,0,5,2",
         b"label,0,5,-2",
+        b"label,0,5, ",
         b"label,-0,5,2",
         b"gap,-1,0,0",
         b"gap,0,0,",

@@ -1,4 +1,4 @@
-//! A second reader of the sheet text, written from document 01 apart from the library's.
+//! A second reader of the sheet text, written from document 01 and document 02, Item 3, apart from the library's.
 use crate::sheet::Sheet;
 
 /// A refusal's number and place.
@@ -37,7 +37,7 @@ fn add_record(sheet: &mut Sheet, line: &[u8]) -> Option<()> {
     let fields: Vec<&[u8]> = line.split(|&byte| byte == b',').collect();
     match fields[..] {
         [b"label", number, wanted, weight] => {
-            let weight = if weight.is_empty() { b"1" } else { weight };
+            let weight = if weight.is_empty() { b"10" } else { weight };
             if unsigned(number)? != sheet.labels() as u64 {
                 return None;
             }

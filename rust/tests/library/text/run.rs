@@ -1,7 +1,7 @@
 //! Whole runs: a text is read, laid out and listed, as the station program does.
 use super::read::read_into;
 use super::reader::read;
-use super::typed::{damage, typed};
+use super::typed::{damage, leaves_blank, typed};
 use super::writer::listing;
 use crate::call::{refused_at, Lent};
 use crate::generate::{sheet, KINDS};
@@ -118,9 +118,27 @@ fn slacks_of_nearly_touching() {
     );
 }
 
+/// Document 02, Item 3: a blank weight counts ten, so the other label gives way. A weight of zero is no blank one.
+#[test]
+fn blank_weight_counts_ten() {
+    let sheets = Path::new(env!("CARGO_MANIFEST_DIR")).join("../sheets");
+    let text = std::fs::read(sheets.join("mixed-weights.csv")).expect("the sheet");
+    assert_eq!(text, b"label,0,0,\r\nlabel,1,11,1\r\ngap,0,1,22\r\n");
+    let records = "place,0,-1,1,-1\r\nplace,1,21,1,21\r\nslack,0,0,1\r\n";
+    prints(&text, records);
+    prints(b"label,0,0,10\nlabel,1,11,1\ngap,0,1,22\n", records);
+    prints(
+        b"label,0,0,1\nlabel,1,11,1\ngap,0,1,22\n",
+        "place,0,-11,2,-6\r\nplace,1,33,2,17\r\nslack,0,0,1\r\n",
+    );
+    prints(b"label,0,0,0\n", "refused,6,0\r\n");
+    prints(b"label,0,0,\r\n", "place,0,0,1,0\r\n");
+    prints(b"label,0,0,\r", "refused,10,1\r\n");
+}
+
 #[test]
 fn generated_runs() {
-    let mut placed = 0;
+    let (mut placed, mut blank) = (0, 0);
     for seed in 40_000_000..40_010_000 {
         let _case = Case(seed);
         let mut random = Random::new(seed);
@@ -132,8 +150,10 @@ fn generated_runs() {
         }
         let out = printed(&text);
         assert_eq!(out, expected(&text), "{}", text.escape_ascii());
-        placed += usize::from(out.starts_with(b"place"));
+        let shown = out.starts_with(b"place");
+        placed += usize::from(shown);
+        blank += usize::from(shown && leaves_blank(&text));
     }
-    println!("runs: {placed} placed of 10000");
-    assert!(placed > 3_000);
+    println!("runs: {placed} placed of 10000, {blank} of them with a blank weight");
+    assert!(placed > 3_000 && blank > 500);
 }

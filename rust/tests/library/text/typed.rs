@@ -1,4 +1,5 @@
 //! Texts as people and programs type them, and what damages them.
+use crate::generate::BLANK_WEIGHT;
 use crate::random::Random;
 use crate::sheet::Sheet;
 
@@ -28,12 +29,20 @@ pub fn typed(random: &mut Random, sheet: &Sheet) -> Vec<u8> {
 
 fn label_record(random: &mut Random, sheet: &Sheet, label: usize) -> String {
     let weight = match sheet.weight[label] {
-        1 if random.once_in(2) => String::new(),
+        BLANK_WEIGHT if random.once_in(2) => String::new(),
         weight => digits(random, weight),
     };
     let number = digits(random, label as i64);
     let wanted = digits(random, sheet.wanted[label]);
     format!("label,{number},{wanted},{weight}")
+}
+
+/// Whether a label of a text without bad lines has a blank weight.
+pub fn leaves_blank(text: &[u8]) -> bool {
+    text.split(|&byte| byte == b'\n').any(|line| {
+        let line = line.strip_suffix(b"\r").unwrap_or(line);
+        line.starts_with(b"label,") && line.ends_with(b",")
+    })
 }
 
 /// A number, now and then with leading zeros, of at most 9 digits.

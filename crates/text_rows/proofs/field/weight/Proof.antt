@@ -1,4 +1,4 @@
--- `text_rows::field::weight` meets its contract: a blank field is 1, any other has no sign.
+-- `text_rows::field::weight` meets its contract: a blank field is 10, any other has no sign.
 use mathlib.Core.Path.{ap, _∙_}
 use native.Mathlib.Omega.{arith}
 use borrow.Author.Needs.{needs}
