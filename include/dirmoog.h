@@ -6,9 +6,9 @@
  * and any contents may be lent, and every call returns. The calls keep no state, so threads may call them at once.
  *
  * The caller sees to the stack: nothing checks that there is enough. Arguments and return address included,
- * dirmoog_layout needs at most 18,232 bytes, dirmoog_read 5,576, dirmoog_listing 25,728, dirmoog_slack 40 and
- * dirmoog_round 8. What memcpy and memset need comes on top: a first call that has them looked up took at most 2,232 bytes
- * more. 32 KiB are enough.
+ * dirmoog_layout needs at most 18,232 bytes, dirmoog_read 5,576, dirmoog_listing 25,728, dirmoog_slack 40, dirmoog_round
+ * and dirmoog_round_half_up 8. What memcpy and memset need comes on top: a first call that has them looked up took at most
+ * 2,232 bytes more. 32 KiB are enough.
  *
  * Every call returns 0, or the number of a refusal. A refused call writes nothing but what its comment names.
  *
@@ -30,8 +30,8 @@
  * offender. Labels and gaps count from 0.
  *
  * dirmoog_layout gives 1 to 9, dirmoog_read 11, 10, 1, 2 and 4, and dirmoog_listing 1 to 4. 12 belongs to the calls over
- * single fractions: dirmoog_round gives 12, and dirmoog_slack 12, then 8. These two and dirmoog_listing tell no place: it
- * is always 0.
+ * single fractions: dirmoog_round and dirmoog_round_half_up give 12, and dirmoog_slack 12, then 8. These three and
+ * dirmoog_listing tell no place: it is always 0.
  */
 #ifndef DIRMOOG_H
 #define DIRMOOG_H
@@ -68,8 +68,8 @@ extern "C" {
  *
  * 0, placed: the first entries of place_num, place_den, mult_num and mult_den hold fractions in lowest terms with a
  *   denominator above zero, and carried holds 1 for marked gaps, else 0. Entries beyond stay, and so does ring. out is 0, 0.
- *   A place has a denominator of at most 4,800 and lies within 1,140,000 of zero, so that neither dirmoog_round nor
- *   dirmoog_slack refuses one.
+ *   A place has a denominator of at most 4,800 and lies within 1,140,000 of zero, so that dirmoog_round,
+ *   dirmoog_round_half_up and dirmoog_slack refuse none.
  *   Multipliers show that no other places cost less: none is negative, one is 0 where its gap is not tight, and for each
  *   label 2 x weight x (place - wanted) is the sum over the gaps with it on the right less that over those with it on the
  *   left. Marked gaps are tight, no ring can be walked along them, and an unmarked gap has multiplier 0.
@@ -92,11 +92,20 @@ uint64_t dirmoog_layout(const int64_t *wanted, size_t wanted_len,
                         uint64_t *out, size_t out_len);
 
 /*
- * Rounds num/den to the nearest whole number, halves away from zero. Refused with 12, whose place is 0.
+ * Rounds num/den to the nearest whole number, halves away from zero: -3/2 to -2, 9/2 to 5. Refused with 12, whose place is
+ * 0. Places rounded so may break a gap by one unit; the listing goes by dirmoog_round_half_up.
  *
  *   out        the whole number, or 0 where it is refused. An empty out loses it. Entries beyond the first stay.
  */
 uint64_t dirmoog_round(int64_t num, int64_t den, int64_t *out, size_t out_len);
+
+/*
+ * Rounds num/den to the nearest whole number, halves to the larger one: -3/2 to -1, -1/2 to 0, 9/2 to 5. Refused with 12
+ * as dirmoog_round is. Places that meet a gap meet it when rounded so, too: left + distance <= right in whole numbers.
+ *
+ *   out        as that of dirmoog_round
+ */
+uint64_t dirmoog_round_half_up(int64_t num, int64_t den, int64_t *out, size_t out_len);
 
 /*
  * Tells how far a gap is from closing: its slack, the right place less the left place less the distance, in lowest terms
@@ -143,14 +152,15 @@ uint64_t dirmoog_read(const uint8_t *text, size_t text_len,
 /*
  * Writes the listing of an answer: for placed "place", label, numerator, denominator, whole unit for each label, and after
  * these "slack", gap, numerator, denominator for each gap, all in the order of their numbers; else "refused", number, place
- * alone. Every record is ended by CRLF. The call is refused with 1 (more than 48 labels), 2 (more than 192 gaps), 3 or 4, in
- * this order, all at place 0.
+ * alone. Every record is ended by CRLF. The whole units of the places that dirmoog_layout writes meet every gap of the sheet.
+ * The call is refused with 1 (more than 48 labels), 2 (more than 192 gaps), 3 or 4, in this order, all at place 0.
  *
  *   number     the answer's number: 0 for placed. Where it is not 0, the five lists below are without effect.
  *   place      the answer's place; without effect where number is 0
  * To read, one entry per label (their count is place_num_len):
  *   place_num  numerators of the places
- *   place_den  denominators of the places; as many entries. A fraction that dirmoog_round refuses has whole unit 0.
+ *   place_den  denominators of the places; as many entries. The whole unit of a place is what dirmoog_round_half_up gives,
+ *              so 0 where that is refused.
  * To read, one entry per gap (their count is left_len):
  *   left       number of the left label
  *   right      number of the right label; as many entries

@@ -3,14 +3,16 @@
 //! A sheet has labels, each with a wanted place and a weight, and gaps, each of which asks that its
 //! right label stand at least its distance to the right of its left label. [`lay_out`] finds the
 //! placement with the least sum of weight times squared move, in exact fractions, or refuses the
-//! sheet; [`slack`] tells how far a gap is from closing. Any slices may be lent: nothing panics. A
-//! call needs less than 32 KiB of stack.
+//! sheet; [`round_half_up`] gives the whole units of its places, as they are listed, and [`slack`]
+//! tells how far a gap is from closing. Any slices may be lent: nothing panics. A call needs less than
+//! 32 KiB of stack.
 //!
 //! What is proved is the library. Nothing proves this package: its `unsafe` calls, how it turns
 //! numbers into enums, and [`ring_part`], which is its own.
 //!
 //! ```
-//! use dirmoog::{lay_out, round, slack, Answer, Fraction, Room, Rounded, Sheet, SlackAnswer};
+//! use dirmoog::{lay_out, round_half_up, slack};
+//! use dirmoog::{Answer, Fraction, Room, Rounded, Sheet, SlackAnswer};
 //!
 //! let sheet = Sheet {
 //!     wanted: &[0, 3],
@@ -32,7 +34,7 @@
 //! assert_eq!(lay_out(&sheet, &mut room), Answer::Placed);
 //! assert_eq!((place_num, place_den), ([-3, 9], [2, 2]));
 //! assert_eq!((mult_num, mult_den), ([3], [1]));
-//! assert_eq!(round(place_num[0], place_den[0]), Rounded::Whole(-2));
+//! assert_eq!(round_half_up(place_num[0], place_den[0]), Rounded::Whole(-1));
 //!
 //! // the two labels touch: nothing is left between them
 //! let place = |label: usize| Fraction { num: place_num[label], den: place_den[label] };
@@ -197,7 +199,8 @@ pub fn ring_part(ring: &[u64], length: u64) -> &[u64] {
         .unwrap_or(&[])
 }
 
-/// Rounds a fraction to the nearest whole number, halves away from zero, or refuses it with 12.
+/// Rounds a fraction to the nearest whole number, halves away from zero, or refuses it with 12. Places
+/// rounded so may break a gap by one unit; a listing goes by [`round_half_up`].
 ///
 /// ```
 /// use dirmoog::{round, Refusal, Rounded};
@@ -210,6 +213,32 @@ pub fn round(num: i64, den: i64) -> Rounded {
     let mut out = [0];
     // SAFETY: the pointer and the length are those of a slice that is borrowed for writing.
     let number = unsafe { raw::dirmoog_round(num, den, out.as_mut_ptr(), out.len()) };
+    rounded(number, out)
+}
+
+/// Rounds a fraction to the nearest whole number, halves to the larger one, or refuses it with 12. This
+/// is the whole unit of a listing: places that meet a gap meet it when rounded so, too.
+///
+/// ```
+/// use dirmoog::{round, round_half_up, Refusal, Rounded};
+///
+/// assert_eq!(round_half_up(-3, 2), Rounded::Whole(-1));
+/// assert_eq!(round_half_up(9, 2), Rounded::Whole(5));
+/// assert_eq!(round_half_up(1, 0), Rounded::Refused(Refusal { number: 12, place: 0, ring: 0 }));
+///
+/// // labels at 1/2 and -1/2 with a gap of -1, which halves away from zero would break
+/// assert_eq!([round_half_up(1, 2), round_half_up(-1, 2)], [1, 0].map(Rounded::Whole));
+/// assert_eq!([round(1, 2), round(-1, 2)], [1, -1].map(Rounded::Whole));
+/// ```
+pub fn round_half_up(num: i64, den: i64) -> Rounded {
+    let mut out = [0];
+    // SAFETY: the pointer and the length are those of a slice that is borrowed for writing.
+    let number = unsafe { raw::dirmoog_round_half_up(num, den, out.as_mut_ptr(), out.len()) };
+    rounded(number, out)
+}
+
+/// The answer of either rounding: the whole number that was told, or the refusal of a number.
+fn rounded(number: u64, out: [i64; 1]) -> Rounded {
     match number {
         0 => Rounded::Whole(out[0]),
         _ => Rounded::Refused(refusal(number, [0, 0])),

@@ -38,6 +38,8 @@ extern "C" {
 
     pub fn dirmoog_round(num: i64, den: i64, out: *mut i64, out_len: usize) -> u64;
 
+    pub fn dirmoog_round_half_up(num: i64, den: i64, out: *mut i64, out_len: usize) -> u64;
+
     pub fn dirmoog_slack(
         left_num: i64,
         left_den: i64,

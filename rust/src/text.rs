@@ -99,6 +99,9 @@ pub struct Listable<'a> {
 /// listing. A slack is 0/1 where an end of the gap is no label, and where [`slack`](crate::slack)
 /// refuses it.
 ///
+/// The whole unit of a place is what [`round_half_up`](crate::round_half_up) gives, and 0 where that
+/// refuses it. The whole units of places that [`lay_out`](crate::lay_out) wrote meet every gap.
+///
 /// Refused with 1 for more than 48 labels, 2 for more than 192 gaps, 3 for lists that belong
 /// together and differ in length, 4 for a buffer that is too short; then nothing is written.
 ///
@@ -116,7 +119,7 @@ pub struct Listable<'a> {
 /// let mut text = [0; 64];
 /// let listed = write_listing(Answer::Placed, &lists, &mut text);
 /// assert_eq!(listed, Listed::Written(45));
-/// assert_eq!(&text[..45], b"place,0,-3,2,-2\r\nplace,1,9,2,5\r\nslack,0,0,1\r\n");
+/// assert_eq!(&text[..45], b"place,0,-3,2,-1\r\nplace,1,9,2,5\r\nslack,0,0,1\r\n");
 /// ```
 pub fn write_listing(answer: Answer, lists: &Listable<'_>, text: &mut [u8]) -> Listed {
     let (number, place) = match answer {

@@ -1,6 +1,6 @@
 // The search for a gap that does not hold. Whether one does is told by the sign of its slack.
 use exact::Fraction;
-use exact::slack::between;
+use exact::difference::between;
 use ground::GapNumber;
 use ground::Label;
 use ground::limits::GapBytes;

@@ -6,20 +6,26 @@ use mathlib.Core.List.{List, _++_}
 use lib.Dec.{leb, ltb}
 use lib.ListN.{length, set, drop}
 use lib.IntN.{ℤ}
+use mir.Syntax.{w64}
+use mir.Val.{SFits, toZ, ofZ}
+use mir.ValLaws.{toZ-ofZ}
 use Rattle.ground.specs.declared.Answer.{Answer}
 use Rattle.ground.specs.declared.Answer.the-variants.{Placed, Refused}
 use Rattle.ground.specs.Limits.{labelsMost, gapsMost}
 use Rattle.exact.specs.declared.Fraction.{Fraction}
-use Rattle.exact.specs.declared.Rounded.the-variants.{Whole}
-use Rattle.exact.specs.declared.SlackAnswer.the-variants.{Slack}
-use Rattle.exact.specs.Places.{withinPlaces}
-use Rattle.exact.specs.Round.{rounded, roundTiesToAway, refusal12}
-use Rattle.exact.specs.Round as rounding
-use Rattle.exact.specs.Slack.{slackAnswer, slackBetween, withinDistance, refusal}
-use Rattle.exact.specs.Slack as slacks
+use Rattle.single_fractions.specs.declared.Ties.{Ties}
+use Rattle.single_fractions.specs.declared.Rounded.the-variants.{Whole}
+use Rattle.single_fractions.specs.declared.SlackAnswer.the-variants.{Slack}
+use Rattle.single_fractions.specs.Places.{withinPlaces}
+use Rattle.single_fractions.specs.Round.{rounded, wholeBy, refusal12}
+use Rattle.single_fractions.specs.Round as rounding
+use Rattle.exact.specs.Slack.{slackBetween}
+use Rattle.single_fractions.specs.Slack.{slackAnswer, withinDistance, refusal}
+use Rattle.single_fractions.specs.Slack as slacks
 use Rattle.text_listing.specs.declared.Listed.the-variants.{Written}
 use Rattle.text_listing.specs.Listing.{Listable, labelsIn, gapsIn, even, listedIn, laid, listedAs, notListed, sheetRecords, refusedRecord}
 use Rattle.text_listing.specs.Listing as writing
+use Rattle.dirmoog_c.specs.Exported.{RoundTold}
 
 -- an entry is told the number that a function gave
 pub told-at : {A : Type 0} (before : List A) (at : ℕ) {after : List A} {x y : A} → after ≡ set before at x → x ≡ y → after ≡ set before at y
@@ -34,13 +40,18 @@ told-both {A} before between {second = second} one is-first two is-second =
 
 -- ---- refusals whose place is always 0
 
-pub round-place : (num den : ℤ) → rounding.refusedPlace (rounded num den) ≡ 0
+pub round-place : (ties : Ties) (num den : ℤ) → rounding.refusedPlace (rounded ties num den) ≡ 0
 unfolding rounded
-round-place num den = go (withinPlaces num den)
+round-place ties num den = go (withinPlaces num den)
   where
-    go : (b : Bool) → rounding.refusedPlace (cond b (Whole (roundTiesToAway num den)) refusal12) ≡ 0
+    go : (b : Bool) → rounding.refusedPlace (cond b (Whole (wholeBy ties num den)) refusal12) ≡ 0
     go true = refl
     go false = refl
+
+-- what is told of a fraction as its two numbers are read back is told of the fraction
+pub round-plain : (ties : Ties) {num den : ℤ} {out after : List ℤ} {n : ℕ} → SFits w64 num → SFits w64 den
+    → RoundTold (rounded ties (toZ w64 (ofZ w64 num)) (toZ w64 (ofZ w64 den))) out n after → RoundTold (rounded ties num den) out n after
+round-plain ties {num = num} {den} fn fd told = rw (toZ-ofZ w64 num fn, toZ-ofZ w64 den fd) at told
 
 pub slack-place : (l r : Fraction) (g : ℤ) → slacks.refusedPlace (slackAnswer l r g) ≡ 0
 unfolding slackAnswer

@@ -7,16 +7,20 @@ use mathlib.Core.List.{List, [], _∷_}
 use native.Mathlib.Omega.{arith}
 use lib.ListN.{replicate}
 use lib.IntN.{ℤ, pos, negsuc, natAbs}
-use Rattle.exact.specs.declared.SlackAnswer.{SlackAnswer}
-use Rattle.exact.specs.Places.{withinPlaces}
-use Rattle.exact.specs.Round.{rounded, roundTiesToAway, wholeOf}
-use Rattle.exact.specs.Slack.{euclid, lowestOf, slackAnswer}
+use Rattle.single_fractions.specs.declared.SlackAnswer.{SlackAnswer}
+use Rattle.single_fractions.specs.Places.{withinPlaces}
+use Rattle.exact.specs.Nearest.{roundTiesToAway, roundHalfUp}
+use Rattle.single_fractions.specs.declared.Ties.{Ties}
+use Rattle.single_fractions.specs.declared.Ties.the-variants.{AwayFromZero, Up}
+use Rattle.single_fractions.specs.Round.{rounded, wholeOf}
+use Rattle.exact.specs.Slack.{euclid, lowestOf}
+use Rattle.single_fractions.specs.Slack.{slackAnswer}
 use Rattle.ground.specs.declared.Answer.the-variants.{Placed}
 use Rattle.ground.specs.Answers.{numberOf, refusedPlace, refusal}
 use Rattle.text_reading.specs.declared.Reading.the-variants.{Sheet}
 use Rattle.text_listing.specs.Listing.{Listable, listedIn}
 use Rattle.text_listing.specs.Listing as writing
-use Rattle.dirmoog_c.specs.Exported.{SlackTold}
+use Rattle.dirmoog_c.specs.Exported.{RoundTold, SlackTold}
 use Rattle.dirmoog_c.specs.Texted.{readFirst, readSecond}
 
 -- the place of a refusal for its number: 6 at label 1
@@ -28,9 +32,24 @@ pub gaps-for-labels : readFirst (Sheet (record { labels = 2; gaps = 1 })) ≢ re
 gaps-for-labels same = omega arith
 
 -- a fraction rounded upside down: a third is 0, and 3 is 3
-pub fraction-upside-down : wholeOf (rounded (pos 1) (pos 3)) ≢ wholeOf (rounded (pos 3) (pos 1))
+pub fraction-upside-down : wholeOf (rounded AwayFromZero (pos 1) (pos 3)) ≢ wholeOf (rounded AwayFromZero (pos 3) (pos 1))
 unfolding rounded roundTiesToAway withinPlaces
 fraction-upside-down same = let magnitudes : _≡_ {A = ℕ} 0 3 = ap natAbs same in omega arith
+
+-- one rule for the other: of -3/2 C is told -2 by the one entry and -1 by the other
+module _ {x : ℤ} {n : ℕ} {after : List ℤ} where
+  pub away-told : RoundTold (rounded AwayFromZero (negsuc 2) (pos 2)) (x ∷ []) n after → (n ≡ 0) × (after ≡ negsuc 1 ∷ [])
+  unfolding rounded roundTiesToAway withinPlaces
+  away-told t = (t .returned, t .out-told)
+
+  pub up-told : RoundTold (rounded Up (negsuc 2) (pos 2)) (x ∷ []) n after → (n ≡ 0) × (after ≡ negsuc 0 ∷ [])
+  unfolding rounded roundHalfUp withinPlaces
+  up-told t = (t .returned, t .out-told)
+
+  -- of a refusal 0, whatever stood there
+  pub round-refused-told : (ties : Ties) → RoundTold (rounded ties (pos 1) (pos 0)) (x ∷ []) n after → (n ≡ 12) × (after ≡ pos 0 ∷ [])
+  unfolding rounded withinPlaces
+  round-refused-told ties t = (t .returned, t .out-told)
 
 -- so many numerators, denominators, left and right labels, and no distance
 abbrev sized : (nums dens left right : ℕ) → Listable

@@ -4,9 +4,11 @@ use mathlib.Core.Path.{_≡_}
 use mathlib.Core.List.{List}
 use lib.ListN.{set}
 use lib.IntN.{ℤ}
-use Rattle.exact.specs.declared.SlackAnswer.{SlackAnswer}
-use Rattle.exact.specs.Slack.{slackGiven}
-use Rattle.exact.specs.Slack as slacks
+use Rattle.single_fractions.specs.declared.Rounded.{Rounded}
+use Rattle.single_fractions.specs.declared.SlackAnswer.{SlackAnswer}
+use Rattle.single_fractions.specs.Round as rounding
+use Rattle.single_fractions.specs.Slack.{slackGiven}
+use Rattle.single_fractions.specs.Slack as slacks
 use Rattle.ground.specs.declared.Answer.{Answer}
 use Rattle.sheet_checks.specs.Lent.{Read, Written}
 use Rattle.layout.specs.Promise.{Promise}
@@ -23,6 +25,12 @@ pub record Laid (r : Read) (w : Written) (out : List ℕ) (number : ℕ) (after 
   pub kept : Promise r w answer after
   pub returned : number ≡ numberOf answer
   pub out-told : out-after ≡ told (refusedPlace answer) (ringLengthOf answer) out
+
+-- the number of a rounding's answer returned, its whole number told; its place is 0 and is not told
+pub record RoundTold (answer : Rounded) (out : List ℤ) (number : ℕ) (out-after : List ℤ) : Type 0 where
+  pub returned : number ≡ rounding.numberOf answer
+  pub out-told : out-after ≡ set out 0 (rounding.wholeOf answer)
+  pub no-place : rounding.refusedPlace answer ≡ 0
 
 -- the number of a slack's answer returned, its slack told as numerator and denominator; its place is 0 and is not told
 pub record SlackTold (answer : SlackAnswer) (out : List ℤ) (number : ℕ) (out-after : List ℤ) : Type 0 where

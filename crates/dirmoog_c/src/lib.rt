@@ -1,17 +1,19 @@
 // The library for C and Rust: thin functions over the proved entries, on numbers and slices only.
 // Anything may be lent.
 use exact::Fraction;
-use exact::round::round;
-use exact::slack::slack;
 use ground::Answer;
 use layout::lists::lay_out;
+use single_fractions::Ties;
+use single_fractions::round::round;
+use single_fractions::slack::slack;
 ghost use mathlib.Core.Path.{_≡_};
 ghost use lib.ListN.{set};
-ghost use Rattle.exact.specs.Round as rounding;
-ghost use Rattle.exact.specs.Slack.{slackAnswer};
+ghost use Rattle.single_fractions.specs.declared.Ties.the-variants.{AwayFromZero, Up};
+ghost use Rattle.single_fractions.specs.Round.{rounded};
+ghost use Rattle.single_fractions.specs.Slack.{slackAnswer};
 ghost use Rattle.sheet_checks.specs.Lent.{roomLent, sheetLent};
 ghost use Rattle.ground.specs.Answers.{numberOf, refusedPlace, ringLengthOf};
-ghost use Rattle.dirmoog_c.specs.Exported.{Laid, SlackTold};
+ghost use Rattle.dirmoog_c.specs.Exported.{Laid, RoundTold, SlackTold};
 ghost use Rattle.ground.specs.Views.{after, before};
 
 pub mod text;
@@ -105,17 +107,30 @@ pub extern "C" fn dirmoog_layout(
     number
 }
 
-// Rounds a fraction to whole units. Gives 0, or 12 for a bad fraction;
+// Rounds a fraction to whole units by a rule for halves, and tells the whole number.
+fn round_told(ties: Ties, num: i64, den: i64, out: &mut [i64]) -> usize
+    ensures { λ r. ⌜ RoundTold (rounded ties num den) (before out) r (after out) ⌝ }
+{
+    let answer = round(ties, num, den);
+    put_signed(out, 0, answer.whole());
+    answer.number()
+}
+
+// Rounds a fraction to whole units, halves away from zero. Gives 0, or 12 for a bad fraction;
 // out is told the whole number, which is 0 for a refusal. No place is told: it is always 0.
 #[no_mangle]
 pub extern "C" fn dirmoog_round(num: i64, den: i64, out: &mut [i64]) -> usize
-    ensures { λ r. ⌜ r ≡ rounding.numberOf (rounding.rounded num den) ⌝ }
-    ensures { λ _. ⌜ after out ≡ set (before out) 0 (rounding.wholeOf (rounding.rounded num den)) ⌝ }
-    ensures { λ _. ⌜ rounding.refusedPlace (rounding.rounded num den) ≡ 0 ⌝ }
+    ensures { λ r. ⌜ RoundTold (rounded AwayFromZero num den) (before out) r (after out) ⌝ }
 {
-    let answer = round(num, den);
-    put_signed(out, 0, answer.whole());
-    answer.number()
+    round_told(Ties::AwayFromZero, num, den, out)
+}
+
+// The same with halves to the larger number, as the listing prints them.
+#[no_mangle]
+pub extern "C" fn dirmoog_round_half_up(num: i64, den: i64, out: &mut [i64]) -> usize
+    ensures { λ r. ⌜ RoundTold (rounded Up num den) (before out) r (after out) ⌝ }
+{
+    round_told(Ties::Up, num, den, out)
 }
 
 // The slack of a gap between two places. Gives 0, 12 for a bad fraction or 8 for a bad distance;

@@ -1,10 +1,6 @@
 pub mod Fractions
 pub mod Divisor
-pub mod PlaceLimits
-pub mod Rounding
-pub mod RoundingCases
 pub mod Ordering
+pub mod Nearest
 pub mod Slacks
-pub mod Samples
-pub mod WrongRoundings
-pub mod WrongSlacks
+pub mod WrongDivisors

@@ -2,7 +2,6 @@
 -- and what a slack says of its gap.
 use mathlib.Core.Path.{_≡_, refl, sym, _∙_, ap, ap₂}
 use mathlib.Core.Logic.{⊎-elim}
-use mathlib.Core.Bool.{true, false}
 use mathlib.Core.List.{List, [], _∷_}
 use Prim.Native.Nat.{ℕ, zero, suc, _+_, _*_, _%_, _≤_, _<_, _^_}
 use native.Mathlib.Omega.{arith}
@@ -13,16 +12,13 @@ use mir.Syntax.{w64}
 use mir.Val.{SFits}
 use Rattle.ground.specs.Limits.{distanceMost, fractionDenMost, slackNumMost}
 use Rattle.exact.specs.declared.Fraction.{Fraction}
-use Rattle.exact.specs.declared.SlackAnswer.the-variants.{Slack}
 use Rattle.exact.specs.Fraction.{IsFraction, _≃_, _≼_, _≺_, _⊕_, _⊖_, whole, LowestTerms, Reduced}
 use Rattle.exact.specs.Divide.{GreatestCommonDivisor}
-use Rattle.exact.specs.Places.{withinPlaces}
-use Rattle.exact.specs.Slack.{euclid, gcdOf, dividedBy, lowestOf, difference, slackBetween, Measurable, withinDistance, refusal, slackAnswer}
-use Rattle.algebra.proofs.Whole.{le-parts, le-of-eq, le-antisym, parts-le, parts-lt, le-of-lt, le-or-lt, not-le-of-lt, *ℤ-nonneg, *ℤ-le-cancel, *ℤ-cancel}
+use Rattle.exact.specs.Slack.{euclid, gcdOf, dividedBy, lowestOf, difference, slackBetween, Measurable}
+use Rattle.algebra.proofs.Whole.{le-parts, le-of-eq, le-antisym, parts-lt, le-of-lt, le-or-lt, not-le-of-lt, *ℤ-nonneg, *ℤ-le-cancel, *ℤ-cancel}
 use Rattle.algebra.proofs.Ring.{quotes, ring, le-given, lt-given, eq-given, le-goal, lt-goal, eq-goal}
 use Rattle.algebra.proofs.Quotient.{natAbs-*, natAbs-+, natAbs-neg, natAbs-above, above-natAbs, quot-exact, kept, kept-as, fits-as}
 use Rattle.exact.proofs.Divisor.{gcd-step, gcd-end, reduced-by, lowest-unique}
-use Rattle.exact.proofs.PlaceLimits.{places-passed}
 use Rattle.exact.proofs.Fractions.{≃-trans, ⊖-above, whole-above}
 
 -- ---- Euclid's remainders
@@ -190,37 +186,6 @@ module _ (l r : Fraction) (g : ℤ) (hl : IsFraction l) (hr : IsFraction r) wher
 
   pub slack-negative-back : slackBetween l r g .num <ℤ pos 0 → r ≺ (l ⊕ whole g)
   slack-negative-back h = below-form l r g (sign-below-back (difference l r g) apart h)
-
--- ---- the answer
-
-module _ (l r : Fraction) (g : ℤ) where
-  -- places and a distance within their limits are not refused
-  pub slack-of-places : withinPlaces (l .num) (l .den) ≡ true → withinPlaces (r .num) (r .den) ≡ true → withinDistance g ≡ true → slackAnswer l r g ≡ Slack (slackBetween l r g)
-  unfolding slackAnswer
-  slack-of-places h k m = rw (h, k, m) refl
-
-  -- others are
-  pub left-refused : withinPlaces (l .num) (l .den) ≡ false → refusal 12 ≡ slackAnswer l r g
-  unfolding slackAnswer
-  left-refused h = rw h refl
-
-  pub right-refused : withinPlaces (l .num) (l .den) ≡ true → withinPlaces (r .num) (r .den) ≡ false → refusal 12 ≡ slackAnswer l r g
-  unfolding slackAnswer
-  right-refused h k = rw (h, k) refl
-
-  pub distance-refused : withinPlaces (l .num) (l .den) ≡ true → withinPlaces (r .num) (r .den) ≡ true → withinDistance g ≡ false → refusal 8 ≡ slackAnswer l r g
-  unfolding slackAnswer
-  distance-refused h k m = rw (h, k, m) refl
-
--- a place within its limits is within what `between` takes
-pub place-measurable : (q : Fraction) → withinPlaces (q .num) (q .den) ≡ true → Measurable q
-place-measurable q e =
-    let passed = places-passed (q .num) (q .den) e in
-    record {
-      above = parts-lt (omega (arith, le-parts (passed .0)));
-      den-most = parts-le (omega (arith, le-parts (passed .1 .0)));
-      num-most = omega (arith, passed .1 .1);
-    }
 
 -- ---- in 64 bits
 

@@ -33,7 +33,7 @@ orderZ x y = cond (ltZ x y) Below (cond (ltZ y x) Above Same)
 unfoldable pub orderOf : Fraction → Fraction → Order
 orderOf a b = orderZ (a .num *ℤ b .den) (b .num *ℤ a .den)
 
--- the fractions that comparison and rounding take: a denominator from 1, and both within their limits
+-- the fractions that comparison and rounding away from zero take: a denominator from 1, and both within their limits
 pub record InRange (q : Fraction) : Type 0 where
   pub above : pos 0 <ℤ q .den
   pub den-most : q .den ≤ℤ pos fractionDenMost

@@ -1,7 +1,5 @@
 pub mod Fraction
 pub mod Divide
-pub mod Places
-pub mod Round
-pub mod RoundingCases
+pub mod Nearest
 pub mod Slack
 pub mod Total

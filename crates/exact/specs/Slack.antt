@@ -1,17 +1,11 @@
 -- The slack of a gap (document 02, Item 1): "right place less left place less distance, as a fraction in lowest terms,
--- negative where the gap is broken"; and its entry over single fractions.
+-- negative where the gap is broken".
 use Prim.Native.Nat.{ℕ, zero, suc, _%_, _≤_}
-use mathlib.Core.Bool.{Bool, cond, _&&_}
-use lib.Dec.{leb}
 use lib.IntN.{ℤ, pos, natAbs}
 use lib.Signed.{_<ℤ_, _≤ℤ_, quotZ}
-use Rattle.ground.specs.Answers.{refusedAt}
-use Rattle.ground.specs.Limits.{distanceMost, fractionDenMost, slackNumMost}
+use Rattle.ground.specs.Limits.{fractionDenMost, slackNumMost}
 use Rattle.exact.specs.declared.Fraction.{Fraction}
-use Rattle.exact.specs.declared.SlackAnswer.{SlackAnswer}
-use Rattle.exact.specs.declared.SlackAnswer.the-variants.{Slack, Refused}
 use Rattle.exact.specs.Fraction.{_⊖_, whole}
-use Rattle.exact.specs.Places.{withinPlaces}
 
 -- the greatest common divisor by Euclid's remainders, in at most so many turns
 unfoldable pub euclid : ℕ → ℕ → ℕ → ℕ
@@ -46,32 +40,3 @@ pub record Measurable (q : Fraction) : Type 0 where
   pub above : pos 0 <ℤ q .den
   pub den-most : q .den ≤ℤ pos fractionDenMost
   pub num-most : natAbs (q .num) ≤ slackNumMost
-
--- what refusal 8 is not met by: a distance within 20,000 either way
-abbrev pub withinDistance : ℤ → Bool
-withinDistance distance = leb (natAbs distance) distanceMost
-
--- document 01's number for each case of the answer (0: not refused), its place, and the slack given:
--- "with place 0 and slack 0/1"
-abbrev pub numberOf : SlackAnswer → ℕ
-numberOf (Slack q) = 0
-numberOf (Refused r) = r .number
-
-abbrev pub refusedPlace : SlackAnswer → ℕ
-refusedPlace (Slack q) = 0
-refusedPlace (Refused r) = r .place
-
-abbrev pub slackGiven : SlackAnswer → Fraction
-slackGiven (Slack q) = q
-slackGiven (Refused r) = whole (pos 0)
-
--- a refusal, whose place is 0
-abbrev pub refusal : ℕ → SlackAnswer
-refusal number = Refused (refusedAt number 0)
-
--- "an entry over single fractions gives 12 for either place, then 8 for the distance"
-unfoldable pub slackAnswer : (left right : Fraction) (distance : ℤ) → SlackAnswer
-slackAnswer left right distance =
-    cond (withinPlaces (left .num) (left .den) && withinPlaces (right .num) (right .den))
-    (cond (withinDistance distance) (Slack (slackBetween left right distance)) (refusal 8))
-    (refusal 12)

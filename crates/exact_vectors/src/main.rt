@@ -1,16 +1,18 @@
-// Vectors of the exact crate, one to a line: both signs, zero, the six cases of rounding under their names, what is next
-// to a half, and each limit with its neighbour.
+// Vectors of the crates exact and single_fractions, one to a line: both signs, zero, the six cases of rounding under their
+// names, each by both rules for halves, what is next to a half, and each limit with its neighbour.
 // The file stdout has what each line should be, worked out apart from this program.
 use exact::Fraction;
 use exact::Order;
 use exact::compare::compare;
 use exact::divide::gcd;
 use exact::divide::lowest;
-use exact::round::round;
-use exact::slack::slack;
 use ground::limits::FRACTION_DEN_MOST;
 use ground::limits::FRACTION_NUM_MOST;
 use ground::signs::magnitude;
+use single_fractions::Rounded;
+use single_fractions::Ties;
+use single_fractions::round::round;
+use single_fractions::slack::slack;
 ghost use mathlib.Core.Path.{_≡_};
 ghost use mathlib.Core.Bool.{true};
 ghost use Rattle.exact.specs.Divide.{InRange};
@@ -88,10 +90,7 @@ fn show_compare(a: i64, b: i64, c: i64, d: i64) {
     io::write_all(1, b" not taken\n");
 }
 
-fn show_round(num: i64, den: i64) {
-    io::write_all(1, b"round ");
-    print_fraction(num, den);
-    let answer = round(num, den);
+fn print_rounded(answer: Rounded) {
     io::write_all(1, b" = ");
     print_signed(answer.whole());
     io::write_all(1, b" number ");
@@ -99,6 +98,15 @@ fn show_round(num: i64, den: i64) {
     io::write_all(1, b" place ");
     io::print_decimal(1, answer.place() as u64);
     io::write_all(1, b"\n");
+}
+
+fn show_round(num: i64, den: i64) {
+    io::write_all(1, b"round ");
+    print_fraction(num, den);
+    print_rounded(round(Ties::AwayFromZero, num, den));
+    io::write_all(1, b"half up ");
+    print_fraction(num, den);
+    print_rounded(round(Ties::Up, num, den));
 }
 
 fn show_slack(a: i64, b: i64, c: i64, d: i64, distance: i64) {

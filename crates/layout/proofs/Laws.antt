@@ -1,4 +1,4 @@
--- Laws that document 01 says aloud, as theorems of the promise of a layout call. Nothing cites them.
+-- Laws that document 01 says aloud, as theorems of the promise of a layout call.
 use Prim.Native.Nat.{ℕ, zero, suc, _≤_, _<_}
 use mathlib.Core.Path.{_≡_, refl, sym, ap}
 use mathlib.Core.Logic.{_≢_}
@@ -10,9 +10,12 @@ use lib.IntN.{ℤ, natAbs}
 use Rattle.algebra.proofs.Whole.{lt-parts, parts-le, parts-natAbs}
 use Rattle.exact.specs.Fraction.{_≃_}
 use Rattle.exact.proofs.Fractions.{≃-trans}
-use Rattle.exact.proofs.Rounding.{within-places}
-use Rattle.exact.specs.Round.{roundTiesToAway, rounded}
-use Rattle.exact.specs.declared.Rounded.the-variants.{Whole}
+use Rattle.single_fractions.specs.Places.{withinPlaces}
+use Rattle.single_fractions.specs.Round.{rounded, wholeBy}
+use Rattle.single_fractions.specs.declared.Ties.{Ties}
+use Rattle.single_fractions.proofs.PlaceLimits.{places-pass}
+use Rattle.single_fractions.proofs.Rounding.{answers}
+use Rattle.single_fractions.specs.declared.Rounded.the-variants.{Whole}
 use Rattle.ground.specs.declared.Answer.{Answer}
 use Rattle.ground.specs.declared.Answer.the-variants.{Placed}
 use Rattle.ground.specs.declared.GapNumber.{GapNumber}
@@ -68,19 +71,21 @@ module _ {r : Read} {w after : Written} {a : Answer} (promise : Promise r w a af
   unfolding sheetOf
   numerator-within i h = omega (arith, accepted .near i h, accepted .den-most i h)
 
-  -- 12 meets no place: rounding gives its whole unit
-  pub place-rounded : (i : Label) → i .0 < labelCount r → rounded (placeOf after i .num) (placeOf after i .den) ≡ Whole (roundTiesToAway (placeOf after i .num) (placeOf after i .den))
+  -- 12 meets no place, by either rounding or in the slack's entry
+  pub place-within : (i : Label) → i .0 < labelCount r → withinPlaces (placeOf after i .num) (placeOf after i .den) ≡ true
   unfolding sheetOf
-  place-rounded i h =
-      let num : ℤ = placeOf after i .num in
+  place-within i h =
       let den : ℤ = placeOf after i .den in
       let above = lt-parts (accepted .places-lowest i h .above) in
-      let small = numerator-within i h in
-      sym (within-places num den
+      places-pass (placeOf after i .num) den
       (parts-le (omega (arith, above)))
       (parts-le (omega (arith, above, parts-natAbs den, accepted .den-most i h)))
-      (parts-le (omega (arith, parts-natAbs num, small)))
-      (parts-le (omega (arith, parts-natAbs num, small))))
+      (numerator-within i h)
+
+  -- so rounding gives its whole unit
+  pub place-rounded : (ties : Ties) (i : Label) → i .0 < labelCount r
+      → rounded ties (placeOf after i .num) (placeOf after i .den) ≡ Whole (wholeBy ties (placeOf after i .num) (placeOf after i .den))
+  place-rounded ties i h = sym (answers ties (placeOf after i .num) (placeOf after i .den) (place-within i h))
 
 -- "It is unique when a feasible one exists": then the call is placed, at the only least move
 module _ {r : Read} {w after : Written} {a : Answer} (promise : Promise r w a after) (passes : table r w ≡ Pass) {p : Placement} (feasible : Feasible (sheetOf r) p) where

@@ -1,5 +1,5 @@
--- The cases of the bench as layout calls (document 01, "Sheets on the bench"; document 02, Item 3): what a call that keeps
--- its promise answers to each, lent in either form, whatever its buffers hold.
+-- The cases of the bench as layout calls (document 01, "Sheets on the bench"; document 02, Items 3 and 4): what a call that
+-- keeps its promise answers to each, lent in either form, whatever its buffers hold.
 use Prim.Native.Nat.{_<_}
 use mathlib.Core.Path.{_≡_}
 use mathlib.Core.Bool.{false}

@@ -6,6 +6,8 @@ pub mod Laws
 pub mod Forest
 pub mod Decided
 pub mod Places
+pub mod WholeUnits
+pub mod WrongUnits
 pub mod Bench
 pub mod Progress
 pub mod Advance

@@ -1,5 +1,5 @@
--- The sheets on the bench: document 01's cases P1 to P10 in its order, then the mixed sheet of document 02, Item 3, in one
--- list, and what it is for a case to be right.
+-- The sheets on the bench: document 01's cases P1 to P10 in its order, then document 02's mixed sheet (Item 3) and its
+-- labels that cross (Item 4), in one list, and what it is for a case to be right.
 use Prim.Native.Nat.{ℕ, suc, _<_}
 use mathlib.Core.Path.{_≡_}
 use mathlib.Core.Bool.{cond}
@@ -200,6 +200,16 @@ mixed =
       source = worked-out;
     }
 
+-- document 02, Item 4: "wants 2 and -2, weights 1, gap 0 to 1 of -1", whose exact places are 1/2 and -1/2
+abbrev pub crossing : Placed
+crossing =
+    record {
+      sheet = sheet (pos 2 ∷ minus 2 ∷ []) (pos 1 ∷ pos 1 ∷ []) (0 to 1 of minus 1 ∷ []);
+      places = pos 1 over 2 ∷ minus 1 over 2 ∷ [];
+      multipliers = pos 3 over 1 ∷ [];
+      source = worked-out;
+    }
+
 unfoldable pub bench : List Case
 bench =
     placed P1
@@ -214,6 +224,7 @@ bench =
     ∷ placed P9
     ∷ refused P10
     ∷ placed mixed
+    ∷ placed crossing
     ∷ []
 
 -- ---- what it is for a case to be right

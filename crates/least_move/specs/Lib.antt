@@ -1,5 +1,6 @@
 pub mod Sheet
 pub mod Placement
+pub mod WholeUnits
 pub mod Multipliers
 pub mod Marks
 pub mod Ring

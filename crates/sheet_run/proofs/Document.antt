@@ -1,17 +1,17 @@
--- Whole runs that follow from the promise: whatever keeps it prints these bytes for the text of document 01's own run and
--- for that of document 02's mixed sheet (Item 3).
+-- Whole runs that follow from the promise: whatever keeps it prints these bytes for the text of document 01's own run, for
+-- that of document 02's mixed sheet (Item 3) and for that of its labels that cross (Item 4).
 use Prim.Native.Nat.{ℕ}
 use mathlib.Core.Path.{_≡_, refl, _∙_}
 use mathlib.Core.List.{List, _++_}
 use native.Mathlib.Omega.{arith}
 use lib.Dec.{lit<}
 use lib.ListN.{take}
-use Rattle.least_move.specs.Bench.{P3, mixed, bench}
+use Rattle.least_move.specs.Bench.{P3, mixed, crossing, bench}
 use Rattle.layout.specs.BenchCalls.{EachCall, PlacedSo}
 use Rattle.layout.proofs.BenchCalls.{case-answers}
 use Rattle.text_reading.specs.Texts.{filled, roomFor, reading}
-use Rattle.text_reading.proofs.Examples.{document-text, document-sheet, document-run, mixed-text, mixed-sheet, mixed-read}
-use Rattle.text_listing.proofs.Samples.{first-record, run-listed, second-record, slack-record, mixed-listed, mixed-listing}
+use Rattle.text_reading.proofs.Examples.{document-text, document-sheet, document-run, mixed-text, mixed-sheet, mixed-read, crossing-text, crossing-sheet, crossing-read}
+use Rattle.text_listing.proofs.Samples.{first-record, run-listed, second-record, slack-record, mixed-listed, mixed-listing, crossing-listed, crossing-listing}
 use Rattle.sheet_run.specs.Run.{Run}
 use Rattle.sheet_run.proofs.PlacedRuns.{Tells, placed-prints}
 
@@ -32,7 +32,8 @@ document-tells = record {
   few = omega arith;
 }
 
--- a run on document 01's text that keeps the promise prints document 01's listing, and after its places the slack of its gap
+-- a run on document 01's text that keeps the promise prints document 01's listing, with -1 and 5 (document 02, Item 4), and
+-- after its places the slack of its gap
 pub document-prints : {before after : List ℕ} {n : ℕ} → Run document-text before n after → take n after ≡ first-record ++ second-record ++ slack-record
 unfolding filled
 document-prints r = placed-prints document-tells P3-lays r ∙ run-listed
@@ -58,3 +59,25 @@ mixed-tells = record {
 pub mixed-prints : {before after : List ℕ} {n : ℕ} → Run mixed-text before n after → take n after ≡ mixed-listing
 unfolding filled
 mixed-prints r = placed-prints mixed-tells mixed-lays r ∙ mixed-listed
+
+-- ---- document 02, Item 4: the text of the labels that cross
+
+crossing-lays : EachCall (crossing .sheet) (PlacedSo crossing)
+unfolding bench
+crossing-lays = case-answers 12 (lit< tt)
+
+crossing-tells : Tells crossing-text crossing-sheet crossing
+unfolding reading roomFor filled
+crossing-tells = record {
+  typed = rw crossing-read;
+  read-as = refl;
+  lent-with = record { carried = refl; room = refl };
+  per-label = refl;
+  labels = refl;
+  few = omega arith;
+}
+
+-- a run on it that keeps the promise prints 1 and 0
+pub crossing-prints : {before after : List ℕ} {n : ℕ} → Run crossing-text before n after → take n after ≡ crossing-listing
+unfolding filled
+crossing-prints r = placed-prints crossing-tells crossing-lays r ∙ crossing-listed

@@ -6,4 +6,5 @@ pub mod Decided
 pub mod PlacedRuns
 pub mod Document
 pub mod Slacks
+pub mod Units
 pub mod WrongRuns

@@ -13,18 +13,14 @@ use lib.Seq.{getD-take}
 use lib.IntN.{ℤ, pos, negsuc, negℤ}
 use lib.Signed.{_≤ℤ_}
 use borrow.Author.Tests.{le-leb, ltb-false}
-use Rattle.algebra.proofs.Whole.{lt-parts, parts-le, parts-natAbs}
 use Rattle.ground.specs.declared.Answer.the-variants.{Placed}
 use Rattle.ground.specs.declared.GapNumber.{GapNumber}
-use Rattle.ground.specs.declared.Label.{Label}
 use Rattle.ground.specs.Entries.{int, nat}
 use Rattle.ground.specs.Limits.{distanceMost}
 use Rattle.exact.specs.declared.Fraction.{Fraction}
 use Rattle.exact.specs.Fraction.{_≃_, whole}
-use Rattle.exact.specs.Places.{withinPlaces}
-use Rattle.exact.specs.Slack.{slackAnswer, slackGiven, withinDistance}
-use Rattle.exact.proofs.PlaceLimits.{places-pass}
-use Rattle.exact.proofs.Slacks.{slack-of-places}
+use Rattle.single_fractions.specs.Slack.{slackAnswer, slackGiven, withinDistance}
+use Rattle.single_fractions.proofs.Slacks.{slack-of-places}
 use Rattle.least_move.specs.Sheet.{Proper, label}
 use Rattle.least_move.specs.Placement.{slackOf, Tight}
 use Rattle.least_move.proofs.Slack.{held-slack, loaded-slack, marked-slack, tight-slack}
@@ -33,7 +29,7 @@ use Rattle.sheet_checks.specs.Refusals.{outside}
 use Rattle.sheet_checks.proofs.Passed.{Passed, or-clear, table-passed}
 use Rattle.layout.specs.Promise.{Accepted, Promise, markOf}
 use Rattle.layout.proofs.Facts.{placed-accepted, placed-passes, placed-proper}
-use Rattle.layout.proofs.Laws.{numerator-within}
+use Rattle.layout.proofs.Laws.{place-within}
 use Rattle.text_reading.specs.declared.Counts.{Counts}
 use Rattle.text_reading.specs.Texts.{Lists}
 use Rattle.text_listing.specs.Listing.{Listable, gapsIn, labelsIn, placeIn, printedSlack}
@@ -60,17 +56,6 @@ module _ (wanted weight : List ℤ) (l : Listable) {w after : Written} (promise 
   proper : Proper (sheetOf (callOn wanted weight l))
   proper = placed-proper promise refl
 
-  -- 12 meets no place
-  place-passed : (i : Label) → i .0 < length wanted → withinPlaces (placeOf after i .num) (placeOf after i .den) ≡ true
-  unfolding sheetOf
-  place-passed i h =
-      let den : ℤ = placeOf after i .den in
-      let above = lt-parts (accepted .places-lowest i h .above) in
-      places-pass (placeOf after i .num) den
-      (parts-le (omega (arith, above)))
-      (parts-le (omega (arith, above, parts-natAbs den, accepted .den-most i h)))
-      (numerator-within promise refl i h)
-
   pub listed-slack : (e : GapNumber) → e .0 < gapsIn l → printedSlack l (e .0) ≡ slackOf (placeOf after) (sheetOf (callOn wanted weight l) .gap e)
   unfolding sheetOf
   listed-slack e h =
@@ -83,7 +68,7 @@ module _ (wanted weight : List ℤ) (l : Listable) {w after : Written} (promise 
       sym (slack-given l (e .0) (omega arith) (omega arith))
       ∙ ap₂ (λ (p q : Fraction). slackGiven (slackAnswer p q g)) (same u left-in) (same v right-in)
       ∙ ap slackGiven
-      (slack-of-places (placeOf after (label u)) (placeOf after (label v)) g (place-passed (label u) left-in) (place-passed (label v) right-in)
+      (slack-of-places (placeOf after (label u)) (placeOf after (label v)) g (place-within promise refl (label u) left-in) (place-within promise refl (label v) right-in)
       (distance-passed g (passed .measured (e .0) h)))
 
   -- an accepted sheet has no broken gap, so none is printed below zero
@@ -119,7 +104,7 @@ first-clear false b c d e h = refl
 
 module _ (c : Counts) (l : Lists) {w after : Written} (promise : Promise (sheetRead c l) w Placed after) where
   -- a place is listed for each label
-  enough-read : labelCount (sheetRead c l) ≤ labelsIn (listableRead c l after)
+  pub enough-read : labelCount (sheetRead c l) ≤ labelsIn (listableRead c l after)
   unfolding sheetOf
   enough-read =
       let passed : Passed (sheetRead c l) w = table-passed (sheetRead c l) w (placed-passes promise refl) in
@@ -128,7 +113,7 @@ module _ (c : Counts) (l : Lists) {w after : Written} (promise : Promise (sheetR
       (le-min (take-most (c .labels) (l .wanted)) (omega (arith, placed-accepted promise refl .place-nums .size)))
 
   -- it is the one that the call wrote
-  same-read : (i : ℕ) → i < labelCount (sheetRead c l) → placeIn (listableRead c l after) i ≡ placeOf after (label i)
+  pub same-read : (i : ℕ) → i < labelCount (sheetRead c l) → placeIn (listableRead c l after) i ≡ placeOf after (label i)
   same-read i h =
       let below : i < c .labels = omega (arith, take-most (c .labels) (l .wanted)) in
       rw (getD-take (c .labels) (after .place-num) i (pos 0) below, getD-take (c .labels) (after .place-den) i (pos 0) below)

@@ -1,5 +1,5 @@
--- Wrong runs of document 01's text, of document 02's mixed sheet (Item 3) and of a text with a weight of zero: what the
--- promise of a run says against each. Nothing cites them.
+-- Wrong runs of document 01's text, of document 02's mixed sheet (Item 3), of its labels that cross (Item 4) and of a text
+-- with a weight of zero: what the promise of a run says against each. Nothing cites them.
 use Prim.Native.Nat.{ℕ}
 use mathlib.Core.Path.{_≡_, refl, sym, ap, _∙_}
 use mathlib.Core.List.{List, [], _∷_, _++_}
@@ -13,13 +13,13 @@ use Rattle.layout.proofs.Facts.{refused-by-table}
 use Rattle.text_rows.specs.Numeral.{digitsOf}
 use Rattle.text_rows.specs.Bytes.{bytes}
 use Rattle.text_reading.specs.Texts.{countsOf, filled, reading, roomFor}
-use Rattle.text_reading.proofs.Examples.{document-text, mixed-text}
+use Rattle.text_reading.proofs.Examples.{document-text, mixed-text, crossing-text}
 use Rattle.text_reading.proofs.WrongReadings.{zero-text, zero-sheet, zero-typed}
 use Rattle.text_listing.specs.Listing.{listing, placeRecord, placeRecords, refusedRecord}
 use Rattle.text_listing.proofs.Samples.{first-record, second-record, slack-record}
 use Rattle.sheet_run.specs.Run.{LaidOut, Run, zeroLists, listableRead}
 use Rattle.sheet_run.proofs.PlacedRuns.{laid-out}
-use Rattle.sheet_run.proofs.Document.{document-prints, mixed-prints}
+use Rattle.sheet_run.proofs.Document.{document-prints, mixed-prints, crossing-prints}
 
 -- the listing is written, and no byte of it is told
 pub nothing-told : {before after : List ℕ} → Run document-text before 0 after → ⊥
@@ -52,10 +52,26 @@ slack-first r early =
     let first : _≡_ {A = ℕ} 115 112 = ap (λ (l : List ℕ). getD l 0 0) (sym early ∙ document-prints r) in
     omega arith
 
+-- halves go away from zero, as before document 02: -3/2 prints as -2
+pub document-away :
+    {before after : List ℕ} {n : ℕ} → Run document-text before n after →
+    take n after ≡ bytes "place,0,-3,2,-2\r\nplace,1,9,2,5\r\nslack,0,0,1\r\n" → ⊥
+document-away r away =
+    let unit : _≡_ {A = ℕ} 50 49 = ap (λ (l : List ℕ). getD l 14 0) (sym away ∙ document-prints r) in
+    omega arith
+
+-- "the print has 1 and -1, two units apart"
+pub crossing-away :
+    {before after : List ℕ} {n : ℕ} → Run crossing-text before n after →
+    take n after ≡ bytes "place,0,1,2,1\r\nplace,1,-1,2,-1\r\nslack,0,0,1\r\n" → ⊥
+crossing-away r away =
+    let unit : _≡_ {A = ℕ} 45 48 = ap (λ (l : List ℕ). getD l 28 0) (sym away ∙ crossing-prints r) in
+    omega arith
+
 -- a blank weight counts one: the places of document 02's mixed sheet would be -11/2 and 33/2
 pub blank-counts-one :
     {before after : List ℕ} {n : ℕ} → Run mixed-text before n after →
-    take n after ≡ bytes "place,0,-11,2,-6\r\nplace,1,33,2,17\r\nslack,0,0,1\r\n" → ⊥
+    take n after ≡ bytes "place,0,-11,2,-5\r\nplace,1,33,2,17\r\nslack,0,0,1\r\n" → ⊥
 blank-counts-one r one =
     let tenth : _≡_ {A = ℕ} 49 44 = ap (λ (l : List ℕ). getD l 10 0) (sym one ∙ mixed-prints r) in
     omega arith

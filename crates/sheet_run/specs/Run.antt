@@ -1,18 +1,24 @@
 -- What a run of the station prints for a text (document 01, "Sheet text").
-use Prim.Native.Nat.{ℕ, _≤_}
+use Prim.Native.Nat.{ℕ, _≤_, _<_}
 use mathlib.Core.Path.{_≡_}
-use mathlib.Core.List.{List}
+use mathlib.Core.Bool.{true}
+use mathlib.Core.List.{List, _++_}
 use lib.ListN.{take, replicate}
 use lib.IntN.{ℤ, pos}
 use Rattle.ground.specs.declared.Answer.{Answer}
-use Rattle.sheet_checks.specs.Lent.{Read, Written, lists}
+use Rattle.ground.specs.declared.Label.{Label}
+use Rattle.exact.specs.Nearest.{roundHalfUp}
+use Rattle.single_fractions.specs.Places.{withinPlaces}
+use Rattle.least_move.specs.Sheet.{label}
+use Rattle.least_move.specs.WholeUnits.{Units, UnitsMeet}
+use Rattle.sheet_checks.specs.Lent.{Read, Written, labelCount, lists, placeOf, sheetOf}
 use Rattle.layout.specs.Promise.{Promise}
 use Rattle.ground.specs.Entries.{Filled}
 use Rattle.text_reading.specs.declared.Counts.{Counts}
 use Rattle.text_reading.specs.declared.Reading.{Reading}
 use Rattle.text_reading.specs.declared.Reading.the-variants.{Sheet, Refused}
 use Rattle.text_reading.specs.Texts.{Lists, reading}
-use Rattle.text_listing.specs.Listing.{Listable, listing, listingRoom, refusedRecord}
+use Rattle.text_listing.specs.Listing.{Listable, gapsIn, labelsIn, listing, listingRoom, placeRecords, printedUnit, refusedRecord, slackRecords}
 use Rattle.ground.specs.Limits.{gapsMost, labelsMost}
 
 -- so many zeros
@@ -57,12 +63,29 @@ listableRead c l after = record {
 
 -- the listing of what a layout call that keeps its promise answers, lent w to write;
 -- it "prints neither multipliers nor rings". For an accepted sheet the slack printed for a gap is that of its places, and
--- none is negative (`printed-slack`, `printed-held` in proofs/Slacks).
+-- none is negative (`printed-slack`, `printed-held` in proofs/Slacks); of its whole units `UnitsShown` holds (proofs/Units).
 pub record LaidFrom (w : Written) (c : Counts) (l : Lists) (printed : List ℕ) : Type 0 where
   pub answer : Answer
   pub after : Written
   pub promise : Promise (sheetRead c l) w answer after
   pub listed : printed ≡ listing answer (listableRead c l after)
+
+-- the whole unit that is printed for each label
+abbrev pub unitsPrinted : Counts → Lists → Written → Units
+unitsPrinted c l after i = printedUnit (listableRead c l after) (i .0)
+
+-- document 02, Item 4, of what is printed for an accepted sheet: the records of its places have these whole units, and every
+-- label has one; 12 meets none of its places; each unit is that of the label's place, halves to the larger number; and "whole
+-- units printed this way meet every gap"
+pub record UnitsShown (c : Counts) (l : Lists) (after : Written) (printed : List ℕ) : Type 0 where
+  pub shown :
+      let listed = listableRead c l after in
+      printed ≡ placeRecords (labelsIn listed) (listed .place-num) (listed .place-den) (λ k. unitsPrinted c l after (label k))
+      ++ slackRecords (gapsIn listed) listed
+  pub every : labelCount (sheetRead c l) ≤ labelsIn (listableRead c l after)
+  pub within : (i : Label) → i .0 < labelCount (sheetRead c l) → withinPlaces (placeOf after i .num) (placeOf after i .den) ≡ true
+  pub units : (i : Label) → i .0 < labelCount (sheetRead c l) → unitsPrinted c l after i ≡ roundHalfUp (placeOf after i .num) (placeOf after i .den)
+  pub meets : UnitsMeet (sheetOf (sheetRead c l)) (unitsPrinted c l after)
 
 -- "The program starts from a carried record of zeros". No byte that is printed can show it: from any other record of
 -- that length, and whatever buffers of these sizes held, the same is printed (`start-unseen` in proofs/Decided).

@@ -5,7 +5,7 @@ use borrow.Author.Tests.{le-ltb, lt-ltb}
 use lib.IntN.{pos}
 use Rattle.ground.specs.Entries.{nat, int}
 use Rattle.exact.specs.Fraction.{whole}
-use Rattle.exact.specs.Slack.{slackAnswer, slackGiven}
+use Rattle.single_fractions.specs.Slack.{slackAnswer, slackGiven}
 use Rattle.text_listing.specs.Listing.{Listable, labelsIn, placeIn, printedSlack}
 
 module _ (l : Listable) (e : ℕ) where

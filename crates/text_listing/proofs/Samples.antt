@@ -1,20 +1,22 @@
--- The listings of document 01, "Sheet text": the whole of one run, a refused sheet, and a sheet of no labels; that of
--- document 02, Item 3; and one whose gaps are not all tight.
+-- The listings of document 01, "Sheet text": the whole of one run, a refused sheet, and a sheet of no labels; those of
+-- document 02, Items 3 and 4; and one whose gaps are not all tight.
 use mathlib.Core.Path.{_≡_, refl}
 use mathlib.Core.List.{List, [], _∷_, _++_}
 use Prim.Native.Nat.{ℕ}
 use lib.IntN.{pos, negsuc}
 use Rattle.ground.specs.declared.Answer.the-variants.{Placed, Refused}
-use Rattle.exact.specs.Places.{withinPlaces}
-use Rattle.exact.specs.Round.{rounded, roundTiesToAway}
-use Rattle.exact.specs.Slack.{euclid, lowestOf, slackAnswer}
+use Rattle.single_fractions.specs.Places.{withinPlaces}
+use Rattle.exact.specs.Nearest.{roundHalfUp}
+use Rattle.single_fractions.specs.Round.{rounded}
+use Rattle.exact.specs.Slack.{euclid, lowestOf}
+use Rattle.single_fractions.specs.Slack.{slackAnswer}
 use Rattle.text_rows.specs.Bytes.{bytes}
 use Rattle.text_rows.specs.Numeral.{digitsOf}
-use Rattle.text_listing.specs.Listing.{Listable, placeRecord, placeRecords, printedSlack, slackRecord, slackRecords, refusedRecord, listing}
+use Rattle.text_listing.specs.Listing.{Listable, unitOf, placeRecord, placeRecords, printedSlack, slackRecord, slackRecords, refusedRecord, listing}
 
 -- the records of the document's run
 abbrev pub first-record : List ℕ
-first-record = bytes "place,0,-3,2,-2\r\n"
+first-record = bytes "place,0,-3,2,-1\r\n"
 
 abbrev pub second-record : List ℕ
 second-record = bytes "place,1,9,2,5\r\n"
@@ -33,7 +35,7 @@ run = record {
 }
 
 pub run-listed : listing Placed run ≡ first-record ++ second-record ++ slack-record
-unfolding placeRecords placeRecord slackRecords slackRecord printedSlack slackAnswer lowestOf euclid digitsOf rounded roundTiesToAway withinPlaces
+unfolding placeRecords placeRecord slackRecords slackRecord printedSlack slackAnswer lowestOf euclid digitsOf unitOf rounded roundHalfUp withinPlaces
 run-listed = refl
 
 -- document 02, Item 3: -1 and 21, 22 apart as the gap asks
@@ -50,8 +52,25 @@ abbrev pub mixed-listing : List ℕ
 mixed-listing = bytes "place,0,-1,1,-1\r\nplace,1,21,1,21\r\nslack,0,0,1\r\n"
 
 pub mixed-listed : listing Placed mixed-places ≡ mixed-listing
-unfolding placeRecords placeRecord slackRecords slackRecord printedSlack slackAnswer lowestOf euclid digitsOf rounded roundTiesToAway withinPlaces
+unfolding placeRecords placeRecord slackRecords slackRecord printedSlack slackAnswer lowestOf euclid digitsOf unitOf rounded roundHalfUp withinPlaces
 mixed-listed = refl
+
+-- document 02, Item 4: 1/2 and -1/2, the second 1 left of the first as the gap allows; "the pair prints as 1 and 0"
+abbrev pub crossing-places : Listable
+crossing-places = record {
+  place-num = pos 1 ∷ negsuc 0 ∷ [];
+  place-den = pos 2 ∷ pos 2 ∷ [];
+  left = 0 ∷ [];
+  right = 1 ∷ [];
+  distance = negsuc 0 ∷ [];
+}
+
+abbrev pub crossing-listing : List ℕ
+crossing-listing = bytes "place,0,1,2,1\r\nplace,1,-1,2,0\r\nslack,0,0,1\r\n"
+
+pub crossing-listed : listing Placed crossing-places ≡ crossing-listing
+unfolding placeRecords placeRecord slackRecords slackRecord printedSlack slackAnswer lowestOf euclid digitsOf unitOf rounded roundHalfUp withinPlaces
+crossing-listed = refl
 
 -- the places for wants 0, 1, 40 and 41: two gaps are tight, and the third has 37 sixths to spare
 abbrev pub pairs : Listable
@@ -66,7 +85,7 @@ pairs = record {
 pub pairs-listed :
     listing Placed pairs ≡ bytes "place,0,-8,3,-3\r\nplace,1,7,3,2\r\nplace,2,77,2,39\r\nplace,3,85,2,43\r\n"
     ++ bytes "slack,0,0,1\r\nslack,1,0,1\r\nslack,2,37,6\r\n"
-unfolding placeRecords placeRecord slackRecords slackRecord printedSlack slackAnswer lowestOf euclid digitsOf rounded roundTiesToAway withinPlaces
+unfolding placeRecords placeRecord slackRecords slackRecord printedSlack slackAnswer lowestOf euclid digitsOf unitOf rounded roundHalfUp withinPlaces
 pairs-listed = refl
 
 -- no labels and no gaps

@@ -1,69 +1,47 @@
 -- How long a listing can be.
 use mathlib.Core.Path.{_≡_, refl}
-use mathlib.Core.Bool.{Bool, true, false, cond, _&&_}
+use mathlib.Core.Bool.{Bool, true, false, cond}
 use mathlib.Core.List.{List}
-use Prim.Native.Nat.{ℕ, zero, suc, _+_, _*_, _/_, _%_, _≤_, _<_}
+use Prim.Native.Nat.{ℕ, zero, suc, _+_, _*_, _≤_, _<_}
 use native.Mathlib.Omega.{arith}
-use native.Mathlib.Nat.{div-le-self}
-use lib.Dec.{ltb, leb}
-use borrow.Author.Tests.{leb-true}
 use lib.ListN.{length, length-append}
-use lib.IntN.{ℤ, pos, negsuc, natAbs}
-use lib.Signed.{leZ}
+use lib.IntN.{ℤ, natAbs}
 use mir.Syntax.{w64}
 use mir.Val.{Fits, SFits}
 use Rattle.ground.specs.declared.Refusal.{Refusal}
-use Rattle.exact.specs.declared.Rounded.the-variants.{Whole, Refused}
+use Rattle.single_fractions.specs.declared.Rounded.the-variants.{Whole, Refused}
 use Rattle.exact.specs.declared.Fraction.{Fraction}
-use Rattle.exact.specs.Places.{withinPlaces}
-use Rattle.exact.specs.Round.{onSide, nearestMagnitude, roundTiesToAway, rounded, wholeOf}
-use Rattle.algebra.proofs.Quotient.{natAbs-neg}
+use Rattle.single_fractions.specs.Places.{withinPlaces}
+use Rattle.exact.specs.Nearest.{roundHalfUp}
+use Rattle.exact.proofs.Nearest.{round-half-up, half-up-most}
+use Rattle.single_fractions.specs.Round.{rounded, refusal12, wholeOf}
+use Rattle.single_fractions.proofs.PlaceLimits.{places-passed}
+use Rattle.single_fractions.proofs.Rounding.{in-range}
 use Rattle.ground.specs.declared.Answer.{Answer}
 use Rattle.ground.specs.declared.Answer.the-variants as answer
 use Rattle.ground.specs.Entries.{int}
-use Rattle.ground.specs.Limits.{labelsMost, gapsMost}
+use Rattle.ground.specs.Limits.{labelsMost, gapsMost, placeNumMost}
 use Rattle.text_rows.specs.Numeral.{decimal, signedDecimal}
-use Rattle.text_listing.specs.Listing.{placeRoom, slackRoom, refusedRoom, listingRoom, placeRecord, placeRecords, refusedRecord, listing}
-use Rattle.text_listing.specs.Listing.{Listable, Within, labelsIn, gapsIn, printedSlack, slackRecord, slackRecords, sheetRecords}
+use Rattle.text_listing.specs.Listing.{placeRoom, slackRoom, refusedRoom, listingRoom, unitAt, unitOf, placeRecord, placeRecords, refusedRecord, listing}
+use Rattle.text_listing.specs.Listing.{Listable, Within, labelsIn, gapsIn, printedSlack, printedUnit, slackRecord, slackRecords, sheetRecords}
 use Rattle.text_rows.proofs.Decimal.{length-decimal, length-signed, length-signed-64}
 use Rattle.text_listing.proofs.SlackSize.{FractionFits, printed-fits}
 
 -- ---- the whole unit
 
-near-most : (a d : ℕ) → nearestMagnitude a d ≤ a + 1
-near-most a d = go (ltb (2 * (a % d)) d)
+-- a whole unit is within what refusal 12 leaves
+whole-most : (num den : ℤ) → natAbs (unitOf num den) ≤ placeNumMost
+unfolding unitOf rounded
+whole-most num den = go (withinPlaces num den) refl
   where
-    go : (t : Bool) → cond t (a / d) (a / d + 1) ≤ a + 1
-    go true = omega (arith, div-le-self a d)
-    go false = omega (arith, div-le-self a d)
+    go : (t : Bool) → withinPlaces num den ≡ t → natAbs (wholeOf (cond t (Whole (roundHalfUp num den)) refusal12)) ≤ placeNumMost
+    go true e =
+        let above = in-range num den e .above in
+        omega (arith, half-up-most num den (roundHalfUp num den) above (round-half-up num den above), places-passed num den e .1 .1)
+    go false e = omega arith
 
-on-side : (z : ℤ) (m : ℕ) → natAbs (onSide z m) ≡ m
-on-side (pos n) m = refl
-on-side (negsuc n) m = natAbs-neg (pos m)
-
--- a whole unit is within what refusal 12 leaves, and one
-whole-most : (num den : ℤ) → natAbs (wholeOf (rounded num den)) ≤ 5472000001
-unfolding rounded roundTiesToAway withinPlaces
-whole-most num den = go (leZ (pos 1) den) (leZ den (pos 4800)) (leb (natAbs num) 5472000000) refl
-  where
-    go :
-        (s t u : Bool) → leb (natAbs num) 5472000000 ≡ u → natAbs
-        (wholeOf (cond (s && t && u) (Whole (roundTiesToAway num den))
-        (Refused (record { number = 12; place = 0; ring = 0 })))) ≤ 5472000001
-    go true true true e =
-        omega (
-          arith,
-          on-side num (nearestMagnitude (natAbs num) (natAbs den)),
-          near-most (natAbs num) (natAbs
-              den),
-          leb-true (natAbs num) 5472000000 e,
-        )
-    go true true false e = omega arith
-    go true false u e = omega arith
-    go false t u e = omega arith
-
-pub length-whole : (num den : ℤ) → length (signedDecimal (wholeOf (rounded num den))) ≤ 11
-length-whole num den = length-signed 9 (wholeOf (rounded num den)) (omega (arith, whole-most num den))
+pub length-whole : (num den : ℤ) → length (signedDecimal (unitOf num den)) ≤ 11
+length-whole num den = length-signed 9 (unitOf num den) (omega (arith, whole-most num den))
 
 -- ---- records
 
@@ -79,7 +57,7 @@ length-gap e h = length-decimal 2 e (omega arith)
 
 pub length-place-record :
     (i : ℕ) (num den : ℤ) → i < labelsMost → SFits w64 num → SFits w64 den → length
-    (placeRecord i num den) ≤ placeRoom
+    (placeRecord i num den (unitOf num den)) ≤ placeRoom
 unfolding placeRecord
 length-place-record i num den h fn fd =
     simp length-append
@@ -91,14 +69,13 @@ AllFit zs = (k : ℕ) → SFits w64 (int zs k)
 
 pub length-place-records :
     (n : ℕ) (nums dens : List ℤ) → n ≤ labelsMost → AllFit nums → AllFit dens → length
-    (placeRecords n nums dens) ≤ placeRoom * n
+    (placeRecords n nums dens (unitAt nums dens)) ≤ placeRoom * n
 unfolding placeRecords
 length-place-records zero nums dens h fn fd = omega arith
 length-place-records (suc n) nums dens h fn fd =
     omega (
       arith,
-      length-append (placeRecords n nums dens) (placeRecord n (int nums n)
-          (int dens n)),
+      length-append (placeRecords n nums dens (unitAt nums dens)) (placeRecord n (int nums n) (int dens n) (unitAt nums dens n)),
       length-place-records n nums dens (omega arith) fn fd,
       length-place-record n (int nums n)
           (int dens n) (omega arith) (fn n) (fd n),
@@ -137,7 +114,7 @@ pub length-sheet-records :
 length-sheet-records l h g fn fd =
     omega (
       arith,
-      length-append (placeRecords (labelsIn l) (l .place-num) (l .place-den)) (slackRecords (gapsIn l) l),
+      length-append (placeRecords (labelsIn l) (l .place-num) (l .place-den) (printedUnit l)) (slackRecords (gapsIn l) l),
       length-place-records (labelsIn l) (l .place-num) (l .place-den) h fn fd,
       length-slack-records (gapsIn l) l g,
     )

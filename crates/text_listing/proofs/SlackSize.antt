@@ -13,11 +13,12 @@ use Rattle.algebra.proofs.Quotient.{natAbs-neg, natAbs-*, natAbs-+, above-natAb
 use Rattle.ground.specs.Entries.{nat, int}
 use Rattle.ground.specs.Limits.{distanceMost, fractionDenMost, slackNumMost}
 use Rattle.exact.specs.declared.Fraction.{Fraction}
-use Rattle.exact.specs.declared.SlackAnswer.the-variants.{Slack}
+use Rattle.single_fractions.specs.declared.SlackAnswer.the-variants.{Slack}
 use Rattle.exact.specs.Fraction.{whole}
-use Rattle.exact.specs.Places.{withinPlaces}
-use Rattle.exact.specs.Slack.{Measurable, gcdOf, lowestOf, difference, slackBetween, withinDistance, refusal, slackGiven, slackAnswer}
-use Rattle.exact.proofs.Slacks.{place-measurable}
+use Rattle.single_fractions.specs.Places.{withinPlaces}
+use Rattle.exact.specs.Slack.{Measurable, gcdOf, lowestOf, difference, slackBetween}
+use Rattle.single_fractions.specs.Slack.{withinDistance, refusal, slackGiven, slackAnswer}
+use Rattle.single_fractions.proofs.Slacks.{place-measurable}
 use Rattle.text_listing.specs.Listing.{Listable, isLabel, placeIn, printedSlack}
 
 -- a fraction of two numbers of 64 bits

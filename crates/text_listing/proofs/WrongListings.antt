@@ -1,4 +1,4 @@
--- Listings that a wrong writer would print otherwise (document 01, "Sheet text"; document 02, Item 1).
+-- Listings that a wrong writer would print otherwise (document 01, "Sheet text"; document 02, Items 1 and 4).
 use mathlib.Core.Path.{_≡_, refl, ap}
 use mathlib.Core.Logic.{_≢_}
 use mathlib.Core.List.{List, [], _∷_, _++_}
@@ -9,13 +9,15 @@ use lib.IntN.{ℤ, pos, negsuc, natAbs}
 use Rattle.ground.specs.declared.Answer.the-variants.{Placed}
 use Rattle.exact.specs.declared.Fraction.{Fraction}
 use Rattle.exact.specs.Fraction.{whole}
-use Rattle.exact.specs.Places.{withinPlaces}
-use Rattle.exact.specs.Round.{rounded, roundTiesToAway}
-use Rattle.exact.specs.Slack.{euclid, lowestOf, slackAnswer}
+use Rattle.single_fractions.specs.Places.{withinPlaces}
+use Rattle.exact.specs.Nearest.{roundHalfUp}
+use Rattle.single_fractions.specs.Round.{rounded}
+use Rattle.exact.specs.Slack.{euclid, lowestOf}
+use Rattle.single_fractions.specs.Slack.{slackAnswer}
 use Rattle.text_rows.specs.Bytes.{bytes}
 use Rattle.text_rows.specs.Numeral.{digitsOf}
 use Rattle.text_listing.specs.declared.Listed.the-variants.{Written}
-use Rattle.text_listing.specs.Listing.{placeRecord, placeRecords, printedSlack, slackRecord, slackRecords}
+use Rattle.text_listing.specs.Listing.{unitOf, placeRecord, placeRecords, printedSlack, slackRecord, slackRecords}
 use Rattle.text_listing.specs.Listing.{Listable, listing, listedAs, notListed, listedIn}
 use Rattle.text_listing.proofs.Samples.{first-record, second-record, slack-record, run}
 
@@ -27,25 +29,43 @@ longer : {s t : List ℕ} → length s ≢ length t → s ≢ t
 longer h e = h (ap length e)
 
 -- the numerator does not stand for the denominator: 9 halves are not 9 ninths
-pub numerator-twice : placeRecord 1 (pos 9) (pos 2) ≢ bytes "place,1,9,9,5\r\n"
-unfolding placeRecord digitsOf rounded roundTiesToAway withinPlaces
+pub numerator-twice : placeRecord 1 (pos 9) (pos 2) (unitOf (pos 9) (pos 2)) ≢ bytes "place,1,9,9,5\r\n"
+unfolding placeRecord digitsOf unitOf rounded roundHalfUp withinPlaces
 numerator-twice = differ 10 (λ e. omega arith)
 
 -- a record does not end in LF and CR
-pub feed-return : placeRecord 1 (pos 9) (pos 2) ≢ bytes "place,1,9,2,5\n\r"
-unfolding placeRecord digitsOf rounded roundTiesToAway withinPlaces
+pub feed-return : placeRecord 1 (pos 9) (pos 2) (unitOf (pos 9) (pos 2)) ≢ bytes "place,1,9,2,5\n\r"
+unfolding placeRecord digitsOf unitOf rounded roundHalfUp withinPlaces
 feed-return = differ 13 (λ e. omega arith)
+
+-- halves do not go away from zero: -3/2 has whole unit -1, and not -2; -1/2 has 0, and neither -1 nor -0
+pub away-from-zero : placeRecord 0 (negsuc 2) (pos 2) (unitOf (negsuc 2) (pos 2)) ≢ bytes "place,0,-3,2,-2\r\n"
+unfolding placeRecord digitsOf unitOf rounded roundHalfUp withinPlaces
+away-from-zero = differ 14 (λ e. omega arith)
+
+pub half-away-from-zero : placeRecord 1 (negsuc 0) (pos 2) (unitOf (negsuc 0) (pos 2)) ≢ bytes "place,1,-1,2,-1\r\n"
+unfolding placeRecord digitsOf unitOf rounded roundHalfUp withinPlaces
+half-away-from-zero = differ 13 (λ e. omega arith)
+
+pub minus-zero : placeRecord 1 (negsuc 0) (pos 2) (unitOf (negsuc 0) (pos 2)) ≢ bytes "place,1,-1,2,-0\r\n"
+unfolding placeRecord digitsOf unitOf rounded roundHalfUp withinPlaces
+minus-zero = differ 13 (λ e. omega arith)
+
+-- a place outside the limits has whole unit 0, and not that of its fraction
+pub unit-past : unitOf (pos 4801) (pos 4801) ≡ pos 0
+unfolding unitOf rounded withinPlaces
+unit-past = refl
 
 -- ---- the slacks
 
 -- they do not stand in front of the places
 pub slacks-first : listing Placed run ≢ slack-record ++ first-record ++ second-record
-unfolding placeRecords placeRecord slackRecords slackRecord printedSlack slackAnswer lowestOf euclid digitsOf rounded roundTiesToAway withinPlaces
+unfolding placeRecords placeRecord slackRecords slackRecord printedSlack slackAnswer lowestOf euclid digitsOf unitOf rounded roundHalfUp withinPlaces
 slacks-first = differ 0 (λ e. omega arith)
 
 -- no gap is left out
 pub gap-missed : listing Placed run ≢ first-record ++ second-record
-unfolding placeRecords placeRecord slackRecords slackRecord printedSlack slackAnswer lowestOf euclid digitsOf rounded roundTiesToAway withinPlaces
+unfolding placeRecords placeRecord slackRecords slackRecord printedSlack slackAnswer lowestOf euclid digitsOf unitOf rounded roundHalfUp withinPlaces
 gap-missed = longer (λ e. omega arith)
 
 -- two labels and a gap of 1
@@ -95,12 +115,12 @@ one = record { place-num = pos 9 ∷ []; place-den = pos 2 ∷ []; left = 0 ∷ 
 
 -- a buffer of the listing's length is written
 pub long-enough : listedIn Placed one (replicate 28 0) ≡ listedAs (Written 28) (bytes "place,0,9,2,5\r\nslack,0,0,1\r\n")
-unfolding listedIn placeRecords placeRecord slackRecords slackRecord printedSlack slackAnswer lowestOf euclid digitsOf rounded roundTiesToAway withinPlaces
+unfolding listedIn placeRecords placeRecord slackRecords slackRecord printedSlack slackAnswer lowestOf euclid digitsOf unitOf rounded roundHalfUp withinPlaces
 long-enough = refl
 
 -- a buffer one byte short is refused with 4 and stays
 pub one-byte-short : listedIn Placed one (replicate 27 0) ≡ notListed 4 (replicate 27 0)
-unfolding listedIn placeRecords placeRecord slackRecords slackRecord printedSlack slackAnswer lowestOf euclid digitsOf rounded roundTiesToAway withinPlaces
+unfolding listedIn placeRecords placeRecord slackRecords slackRecord printedSlack slackAnswer lowestOf euclid digitsOf unitOf rounded roundHalfUp withinPlaces
 one-byte-short = refl
 
 -- so many labels and gaps, all zeros

@@ -12,8 +12,9 @@ use denote.Ref.{RefT, now}
 use Rattle.ground.specs.declared.Refusal.{Refusal}
 use Rattle.exact.specs.declared.Fraction.{Fraction}
 use Rattle.exact.specs.Fraction.{fractionAt, whole}
-use Rattle.exact.specs.Round.{rounded, wholeOf}
-use Rattle.exact.specs.Slack.{slackAnswer, slackGiven}
+use Rattle.single_fractions.specs.declared.Ties.the-variants.{Up}
+use Rattle.single_fractions.specs.Round.{rounded, wholeOf}
+use Rattle.single_fractions.specs.Slack.{slackAnswer, slackGiven}
 use Rattle.ground.specs.declared.Answer.{Answer}
 use Rattle.ground.specs.declared.Answer.the-variants.{Placed, Refused}
 use Rattle.text_listing.specs.declared.Listed.{Listed}
@@ -74,16 +75,27 @@ slackWord = bytes "slack"
 abbrev pub refusedWord : List ℕ
 refusedWord = bytes "refused"
 
--- the record of a label; a fraction that rounding refuses has whole unit 0
-unfoldable pub placeRecord : ℕ → ℤ → ℤ → List ℕ
-placeRecord i num den =
-    placeWord ++ (next (decimal i) ++ (next (signedDecimal num) ++ (next (signedDecimal den)
-    ++ (next (signedDecimal (wholeOf (rounded num den))) ++ recordEnd))))
+-- "the word place, label number, numerator, denominator, whole unit"
+unfoldable pub placeRecord : (label : ℕ) (num den unit : ℤ) → List ℕ
+placeRecord i num den unit =
+    placeWord ++ (next (decimal i) ++ (next (signedDecimal num) ++ (next (signedDecimal den) ++ (next (signedDecimal unit) ++ recordEnd))))
 
--- the records of the first n labels
-unfoldable pub placeRecords : ℕ → List ℤ → List ℤ → List ℕ
-placeRecords zero nums dens = []
-placeRecords (suc n) nums dens = placeRecords n nums dens ++ placeRecord n (int nums n) (int dens n)
+-- the records of the first n labels, with these places and whole units
+unfoldable pub placeRecords : ℕ → (nums dens : List ℤ) (unit : ℕ → ℤ) → List ℕ
+placeRecords zero nums dens unit = []
+placeRecords (suc n) nums dens unit = placeRecords n nums dens unit ++ placeRecord n (int nums n) (int dens n) (unit n)
+
+-- the whole unit of a place: "In the listing, halves shall go to the larger number" (document 02, Item 4); 0 for a fraction
+-- that rounding refuses
+unfoldable pub unitOf : ℤ → ℤ → ℤ
+unitOf num den = wholeOf (rounded Up num den)
+
+-- that of a label, over lists of places and of what is listed
+abbrev pub unitAt : (nums dens : List ℤ) → ℕ → ℤ
+unitAt nums dens i = unitOf (int nums i) (int dens i)
+
+abbrev pub printedUnit : Listable → ℕ → ℤ
+printedUnit l = unitAt (l .place-num) (l .place-den)
 
 -- the place of a label
 abbrev pub placeIn : Listable → ℕ → Fraction
@@ -110,9 +122,9 @@ unfoldable pub slackRecords : ℕ → Listable → List ℕ
 slackRecords zero l = []
 slackRecords (suc n) l = slackRecords n l ++ slackRecord n (printedSlack l n)
 
--- the records of a sheet: its places, and "after the places" its slacks
+-- the records of a sheet: its places with their whole units, and "after the places" its slacks
 abbrev pub sheetRecords : Listable → List ℕ
-sheetRecords l = placeRecords (labelsIn l) (l .place-num) (l .place-den) ++ slackRecords (gapsIn l) l
+sheetRecords l = placeRecords (labelsIn l) (l .place-num) (l .place-den) (printedUnit l) ++ slackRecords (gapsIn l) l
 
 -- "A refused sheet prints only: refused, number, place"
 unfoldable pub refusedRecord : Refusal → List ℕ

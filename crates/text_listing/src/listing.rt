@@ -7,22 +7,22 @@ use crate::digits::put_number_field;
 use crate::digits::put_signed_field;
 use crate::digits::put_word;
 use crate::slacks::put_slacks;
-use exact::round::round;
 use ground::Answer;
 use ground::Label;
 use ground::Refusal;
 use ground::limits::GAPS;
 use ground::limits::LABELS;
+use single_fractions::Ties;
+use single_fractions::round::round;
 ghost use mathlib.Core.Path.{_≡_};
 ghost use Prim.Native.Nat.{_+_, _*_, _<_, _≤_};
 ghost use lib.ListN.{length};
-ghost use Rattle.exact.specs.Round.{rounded, wholeOf};
 ghost use Rattle.ground.specs.declared.Answer.the-variants.{Placed};
 ghost use Rattle.text_listing.specs.Appended.{Appended};
 ghost use Rattle.text_rows.specs.Lines.{recordEnd};
 ghost use Rattle.text_listing.specs.Listing.{placeRoom, refusedRoom, listingRoom, laid, listedAs, listedIn, refusal};
 ghost use Rattle.text_listing.specs.Listing.{Within, even, listableLent, listableNow};
-ghost use Rattle.text_listing.specs.Listing.{placeRecord, placeRecords, refusedRecord, sheetRecords};
+ghost use Rattle.text_listing.specs.Listing.{placeRecord, placeRecords, refusedRecord, sheetRecords, unitAt, unitOf};
 ghost use Rattle.ground.specs.Limits.{labelsMost};
 ghost use Rattle.ground.specs.Views.{after, before};
 
@@ -35,18 +35,18 @@ pub(crate) fn put_end(buf: &mut [u8], at: usize) -> usize
     put_byte(buf, end, b'\n')
 }
 
-// The whole unit of a fraction, 0 for one that rounding refuses.
+// The whole unit of a fraction, halves to the larger number; 0 for one that rounding refuses.
 fn whole_unit(num: i64, den: i64) -> i64
-    ensures { λ r. ⌜ r ≡ wholeOf (rounded num den) ⌝ }
+    ensures { λ r. ⌜ r ≡ unitOf num den ⌝ }
 {
-    let rounded = round(num, den);
+    let rounded = round(Ties::Up, num, den);
     rounded.whole()
 }
 
 // Puts the record of a label.
 fn put_place(buf: &mut [u8], at: usize, label: Label, num: i64, den: i64) -> usize
     requires { ⌜ (label .0 < labelsMost) × (at + placeRoom ≤ length (now buf)) ⌝ }
-    ensures { λ r. ⌜ Appended (before buf) at (placeRecord (label .0) num den) (after buf) r ⌝ }
+    ensures { λ r. ⌜ Appended (before buf) at (placeRecord (label .0) num den (unitOf num den)) (after buf) r ⌝ }
 {
     let word = put_word(buf, at, b"place");
     let number = put_number_field(buf, word, label.0 as u64);
@@ -64,7 +64,7 @@ fn put_places(buf: &mut [u8], place_num: &[i64], place_den: &[i64]) -> usize
     ensures { λ r.
         let nums = before «place_num» in
         let dens = before «place_den» in
-        ⌜ Appended (before buf) 0 (placeRecords (length nums) nums dens) (after buf) r
+        ⌜ Appended (before buf) 0 (placeRecords (length nums) nums dens (unitAt nums dens)) (after buf) r
         × (r ≤ labelsMost * placeRoom) ⌝ }
 {
     let mut at: usize = 0;

@@ -1,8 +1,9 @@
--- The texts of document 01's own run and of document 02's mixed sheet (Item 3), read by computation.
+-- The texts of document 01's own run, of document 02's mixed sheet (Item 3) and of its labels that cross (Item 4), read by
+-- computation.
 use Prim.Native.Nat.{ℕ}
 use mathlib.Core.Path.{_≡_, refl}
 use mathlib.Core.List.{List, [], _∷_}
-use lib.IntN.{pos}
+use lib.IntN.{pos, negsuc}
 use Rattle.text_rows.specs.Bytes.{bytes}
 use Rattle.text_rows.specs.Lines.{lines, fields}
 use Rattle.text_rows.specs.Numeral.{allDigits, valueOf, number, signed, weightOf, digitsOf}
@@ -30,6 +31,16 @@ mixed-sheet = record {
   gaps = record { left = 0; right = 1; distance = pos 22 } ∷ [];
 }
 
+-- document 02, Item 4: "wants 2 and -2, weights 1, gap 0 to 1 of -1"
+abbrev pub crossing-text : List ℕ
+crossing-text = bytes "label,0,2,1\r\nlabel,1,-2,1\r\ngap,0,1,-1\r\n"
+
+abbrev pub crossing-sheet : Typed
+crossing-sheet = record {
+  labels = record { wanted = pos 2; weight = pos 1 } ∷ record { wanted = negsuc 1; weight = pos 1 } ∷ [];
+  gaps = record { left = 0; right = 1; distance = negsuc 0 } ∷ [];
+}
+
 -- the texts are read as their sheets
 pub document-run : outcome document-text ≡ sheet document-sheet
 unfolding lines fields allDigits valueOf number signed weightOf same rowOf readFrom
@@ -38,6 +49,10 @@ document-run = refl
 pub mixed-read : outcome mixed-text ≡ sheet mixed-sheet
 unfolding lines fields allDigits valueOf number signed weightOf same rowOf readFrom
 mixed-read = refl
+
+pub crossing-read : outcome crossing-text ≡ sheet crossing-sheet
+unfolding lines fields allDigits valueOf number signed weightOf same rowOf readFrom
+crossing-read = refl
 
 -- document 01's is the text that is written for its sheet
 pub document-printed : printed document-sheet ≡ document-text

@@ -68,6 +68,12 @@ fn mixed_weights() {
     refused(&mixed, 6, 0);
 }
 
+/// Document 02, Item 4: labels that may cross by one unit at most.
+#[test]
+fn crossing_labels() {
+    placed(&plain(&[2, -2], &[(0, 1, -1)]), &[(1, 2), (-1, 2)]);
+}
+
 /// The solver beside the library is held to the cases P of the list too.
 #[test]
 fn cases_p() {

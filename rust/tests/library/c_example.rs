@@ -52,7 +52,7 @@ fn runs() {
     let run = b"label,0,0,1\r\nlabel,1,3,1\r\ngap,0,1,6\r\n";
     assert_eq!(
         printed(&program, run),
-        "place,0,-3,2,-2\r\nplace,1,9,2,5\r\nslack,0,0,1\r\n"
+        "place,0,-3,2,-1\r\nplace,1,9,2,5\r\nslack,0,0,1\r\n"
     );
     let spare = b"label,0,0,\nlabel,1,9,\ngap,0,1,6\ngap,1,0,-9";
     assert_eq!(
@@ -65,6 +65,11 @@ fn runs() {
     assert_eq!(
         printed(&program, mixed),
         "place,0,-1,1,-1\r\nplace,1,21,1,21\r\nslack,0,0,1\r\n"
+    );
+    let crossing = b"label,0,2,1\nlabel,1,-2,1\ngap,0,1,-1\n";
+    assert_eq!(
+        printed(&program, crossing),
+        "place,0,1,2,1\r\nplace,1,-1,2,0\r\nslack,0,0,1\r\n"
     );
     assert_eq!(printed(&program, b"label,0,0,0"), "refused,6,0\r\n");
     assert_eq!(printed(&program, b"label,0,0,1\n\n"), "refused,10,2\r\n");
@@ -90,10 +95,11 @@ fn fails(program: &Path) {
     assert_eq!(unwritten.expect("a run").code(), Some(1));
 }
 
-/// What the program over single fractions prints for some numbers: what the call returns, and two entries.
-fn fraction_call(program: &Path, numbers: &[i64]) -> String {
+/// What the program over single fractions prints for a call and its numbers: what it returns, and two entries.
+fn fraction_call(program: &Path, call: &str, numbers: &[i64]) -> String {
     let words = numbers.iter().map(i64::to_string);
-    let done = Command::new(program).args(words).output().expect("a run");
+    let mut run = Command::new(program);
+    let done = run.arg(call).args(words).output().expect("a run");
     assert!(done.status.success());
     String::from_utf8(done.stdout).expect("three numbers")
 }
@@ -101,17 +107,23 @@ fn fraction_call(program: &Path, numbers: &[i64]) -> String {
 #[test]
 fn single_fractions() {
     let program = compile("c_fractions");
-    for (numbers, told) in [
-        (&[-3, 2][..], "0 -2 77\n"),
-        (&[1, 4_801], "12 0 77\n"),
-        (&[1, 2, 1, 3, 0], "0 -1 6\n"),
-        (&[1, 3, 1, 2, 0], "0 1 6\n"),
-        (&[1, 2, 10, 3, 2], "0 5 6\n"),
-        (&[1, 0, 1, 1, 30_000], "12 0 1\n"),
-        (&[1, 1, 1, 0, 30_000], "12 0 1\n"),
-        (&[0, 1, 0, 1, 20_001], "8 0 1\n"),
-        (&[i64::MIN; 5], "12 0 1\n"),
+    for (call, numbers, told) in [
+        ("round", &[-3, 2][..], "0 -2 77\n"),
+        ("round", &[1, 4_801], "12 0 77\n"),
+        ("round_half_up", &[-3, 2], "0 -1 77\n"),
+        ("round_half_up", &[-1, 2], "0 0 77\n"),
+        ("round_half_up", &[9, 2], "0 5 77\n"),
+        ("round_half_up", &[1, 4_801], "12 0 77\n"),
+        ("round_half_up", &[i64::MIN; 2], "12 0 77\n"),
+        ("slack", &[1, 2, 1, 3, 0], "0 -1 6\n"),
+        ("slack", &[1, 3, 1, 2, 0], "0 1 6\n"),
+        ("slack", &[1, 2, 10, 3, 2], "0 5 6\n"),
+        ("slack", &[1, 0, 1, 1, 30_000], "12 0 1\n"),
+        ("slack", &[1, 1, 1, 0, 30_000], "12 0 1\n"),
+        ("slack", &[0, 1, 0, 1, 20_001], "8 0 1\n"),
+        ("slack", &[i64::MIN; 5], "12 0 1\n"),
     ] {
-        assert_eq!(fraction_call(&program, numbers), told, "{numbers:?}");
+        let said = fraction_call(&program, call, numbers);
+        assert_eq!(said, told, "{call} of {numbers:?}");
     }
 }

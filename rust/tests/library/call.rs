@@ -1,10 +1,12 @@
 //! A layout call with everything that is lent, and what is checked of it.
 use crate::conditions::{
-    confirm, confirm_marks, confirm_none_to_spare, confirm_ring, confirm_slacks,
+    confirm, confirm_marks, confirm_none_to_spare, confirm_ring, confirm_slacks, confirm_units,
 };
-use crate::fraction::{gcd, Fraction};
+use crate::fraction::Fraction;
 use crate::random::Random;
+use crate::records::Records;
 use crate::refusals;
+use crate::rounding::{half_up, units_of};
 use crate::sheet::Sheet;
 use crate::solver;
 use dirmoog::{lay_out, ring_part, write_listing, Answer, Listable, Listed, Refusal, Room};
@@ -91,19 +93,24 @@ impl Lent {
         }
     }
 
-    /// The slacks that the library lists of an accepted sheet, which must be fractions in lowest terms.
-    pub fn slacks(&self, sheet: &Sheet) -> Vec<Fraction> {
-        let mut text = [0; 24_576];
-        let listed = write_listing(Answer::Placed, &self.listable(sheet), &mut text);
+    /// What the library prints for an answer.
+    pub fn printed(&self, answer: Answer, sheet: &Sheet) -> Vec<u8> {
+        let mut text = vec![0; 24_576];
+        let listed = write_listing(answer, &self.listable(sheet), &mut text);
         let Listed::Written(bytes) = listed else {
             panic!("{listed:?}");
         };
-        let text = std::str::from_utf8(&text[..bytes as usize]).expect("a listing");
-        let records: Vec<&str> = text.split_terminator("\r\n").collect();
-        assert_eq!(records.len(), sheet.labels() + sheet.gaps());
-        let slacks = records[sheet.labels()..].iter().enumerate();
-        let (nums, dens): (Vec<_>, Vec<_>) = slacks.map(|(e, record)| slack_of(e, record)).unzip();
-        fractions(&nums, &dens)
+        text.truncate(bytes as usize);
+        text
+    }
+
+    /// What the library prints for an accepted sheet, taken apart. The whole units are those of the places, halves to
+    /// the larger number, and meet every gap.
+    pub fn records(&self, sheet: &Sheet) -> Records {
+        let records = Records::of(&self.printed(Answer::Placed, sheet), sheet);
+        assert_eq!(records.units, units_of(&records.places, half_up));
+        confirm_units(sheet, &records.units).expect("whole units");
+        records
     }
 
     /// The places that were written, which must be fractions in lowest terms.
@@ -128,24 +135,8 @@ fn carried_byte(random: &mut Random) -> u8 {
 fn fractions(nums: &[i64], dens: &[i64]) -> Vec<Fraction> {
     nums.iter()
         .zip(dens)
-        .map(|(&num, &den)| {
-            assert!(den > 0, "{num}/{den} is no fraction");
-            assert_eq!(gcd(num.unsigned_abs(), den as u64), 1, "{num}/{den}");
-            Fraction {
-                num: i128::from(num),
-                den: i128::from(den),
-            }
-        })
+        .map(|(&num, &den)| Fraction::lowest(num, den))
         .collect()
-}
-
-/// Numerator and denominator in the record of a gap.
-fn slack_of(gap: usize, record: &str) -> (i64, i64) {
-    record
-        .strip_prefix(&format!("slack,{gap},"))
-        .and_then(|slack| slack.split_once(','))
-        .and_then(|(num, den)| Some((num.parse().ok()?, den.parse().ok()?)))
-        .unwrap_or_else(|| panic!("{record} is no slack of gap {gap}"))
 }
 
 /// A refusal by the table, which tells no ring.
@@ -180,17 +171,18 @@ pub fn check_call(sheet: &Sheet, before: &Lent) -> Outcome {
     }
 }
 
-/// The places are the solver's; multipliers, marks and the slacks that are listed meet their
-/// conditions; entries beyond and the ring buffer stay.
+/// The places are the solver's; multipliers, marks and the whole units and slacks that are printed meet
+/// their conditions; entries beyond and the ring buffer stay.
 fn check_placed(sheet: &Sheet, before: &Lent, after: &Lent, places: &[Fraction]) {
     let (labels, gaps) = (sheet.labels(), sheet.gaps());
     let multipliers = after.multipliers(gaps);
     assert_eq!(after.places(labels), places);
     confirm(sheet, places, &multipliers).expect("multipliers");
     confirm_marks(sheet, places, &multipliers, &after.carried).expect("marks");
-    let slacks = after.slacks(sheet);
-    confirm_slacks(sheet, places, &slacks).expect("slacks");
-    confirm_none_to_spare(&slacks, &multipliers, &after.carried).expect("slacks of tight gaps");
+    let records = after.records(sheet);
+    assert_eq!(records.places, places);
+    confirm_slacks(sheet, places, &records.slacks).expect("slacks");
+    confirm_none_to_spare(&records.slacks, &multipliers, &after.carried).expect("tight gaps");
     assert_eq!(after.carried.len(), before.carried.len());
     assert_eq!(after.place_num[labels..], before.place_num[labels..]);
     assert_eq!(after.place_den[labels..], before.place_den[labels..]);

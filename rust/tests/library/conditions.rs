@@ -1,5 +1,5 @@
 //! The conditions of document 01, "Least move", "What a station lends" and refusal 9, and of document
-//! 02, Item 1, each as a check of its own.
+//! 02, Items 1 and 4, each as a check of its own.
 use crate::fraction::{Fraction, ZERO};
 use crate::sheet::Sheet;
 
@@ -80,6 +80,17 @@ pub fn confirm_slacks(
         }
         if slack != gap.slack(places) {
             return Err(format!("{slack:?} is not the slack of gap {e}"));
+        }
+    }
+    Ok(())
+}
+
+/// That whole units, one per label, meet every gap.
+pub fn confirm_units(sheet: &Sheet, units: &[i64]) -> Result<(), String> {
+    for (e, gap) in sheet.all_gaps().iter().enumerate() {
+        let (left, right) = (units[gap.left], units[gap.right]);
+        if left + gap.distance > right {
+            return Err(format!("the units {left} and {right} break gap {e}"));
         }
     }
     Ok(())

@@ -38,6 +38,16 @@ impl Fraction {
         }
     }
 
+    /// The fraction num/den, which must be in lowest terms.
+    pub fn lowest(num: i64, den: i64) -> Fraction {
+        assert!(den > 0, "{num}/{den} is no fraction");
+        assert_eq!(gcd(num.unsigned_abs(), den as u64), 1, "{num}/{den}");
+        Fraction {
+            num: i128::from(num),
+            den: i128::from(den),
+        }
+    }
+
     pub fn whole(num: i64) -> Fraction {
         Fraction {
             num: i128::from(num),

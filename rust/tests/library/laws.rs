@@ -7,11 +7,11 @@ use crate::random::Random;
 use crate::sheet::Sheet;
 use dirmoog::Answer;
 
-/// The places of a sheet, from any buffers, if it is accepted.
+/// The places that are printed for a sheet, from any buffers, if it is accepted.
 fn places(random: &mut Random, sheet: &Sheet) -> Option<Vec<Fraction>> {
     let mut lent = Lent::arbitrary(random, sheet.labels(), sheet.gaps());
     let answer = lent.call(sheet);
-    (answer == Answer::Placed).then(|| lent.places(sheet.labels()))
+    (answer == Answer::Placed).then(|| lent.records(sheet).places)
 }
 
 /// The largest difference, without sign.
@@ -84,7 +84,7 @@ fn same_for_any_record(seed: u64) {
         let again = lent.call(&sheet);
         let refused = answer != Answer::Placed;
         assert_eq!(again == Answer::Placed, !refused);
-        assert!(refused || lent.places(labels) == first.places(labels));
+        assert!(refused || lent.records(&sheet).places == first.places(labels));
     }
 }
 

@@ -8,6 +8,7 @@ mod flow;
 mod fraction;
 mod generate;
 mod random;
+mod records;
 mod refusals;
 mod sheet;
 mod solver;

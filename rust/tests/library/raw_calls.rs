@@ -56,18 +56,28 @@ fn layout_tells_what_fits() {
     }
 }
 
-#[test]
-fn round_tells_what_fits() {
-    for (num, den, number, whole) in [(-3, 2, 0, -2), (1, 0, 12, 0)] {
-        for entries in 0..3 {
-            let mut out = vec![77; entries];
-            let mut expected = out.clone();
-            expected.iter_mut().take(1).for_each(|first| *first = whole);
-            // SAFETY: the pointer is that of a list of the length given.
-            let answer = unsafe { raw::dirmoog_round(num, den, out.as_mut_ptr(), entries) };
-            assert_eq!((answer, out), (number, expected));
-        }
+/// Checks what a rounding returns, and what it tells in lists of none, one and two entries, each of which was 77.
+fn rounding_tells_what_fits(
+    rounding: unsafe extern "C" fn(i64, i64, *mut i64, usize) -> u64,
+    (num, den): (i64, i64),
+    (number, whole): (u64, i64),
+) {
+    for entries in 0..3 {
+        let mut out = vec![77; entries];
+        let mut expected = out.clone();
+        expected.iter_mut().take(1).for_each(|first| *first = whole);
+        // SAFETY: the pointer is that of a list of the length given.
+        let answer = unsafe { rounding(num, den, out.as_mut_ptr(), entries) };
+        assert_eq!((answer, out), (number, expected));
     }
+}
+
+#[test]
+fn roundings_tell_what_fits() {
+    rounding_tells_what_fits(raw::dirmoog_round, (-3, 2), (0, -2));
+    rounding_tells_what_fits(raw::dirmoog_round, (1, 0), (12, 0));
+    rounding_tells_what_fits(raw::dirmoog_round_half_up, (-3, 2), (0, -1));
+    rounding_tells_what_fits(raw::dirmoog_round_half_up, (1, 0), (12, 0));
 }
 
 #[test]

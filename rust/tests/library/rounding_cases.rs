@@ -1,4 +1,5 @@
-//! The rounding by its six cases, and beside `f64::round`, which is IEEE 754's rounding to a whole number, ties away.
+//! Rounding away from zero by its six cases, and beside `f64::round`, which is IEEE 754's rounding to a whole number,
+//! ties away.
 use crate::random::Random;
 use dirmoog::{round, Rounded};
 use std::cmp::Ordering;

@@ -1,5 +1,6 @@
 //! A sheet as the tests hold it.
 use crate::fraction::Fraction;
+use std::path::Path;
 
 /// The lists that are lent to read. They may be of any lengths and hold anything.
 #[derive(Clone, Debug, Default, PartialEq, Eq)]
@@ -17,6 +18,12 @@ pub struct Gap {
     pub left: usize,
     pub right: usize,
     pub distance: i64,
+}
+
+/// A text of the repository's folder of sheets.
+pub fn file(name: &str) -> Vec<u8> {
+    let sheets = Path::new(env!("CARGO_MANIFEST_DIR")).join("../sheets");
+    std::fs::read(sheets.join(name)).expect("the sheet")
 }
 
 impl Sheet {

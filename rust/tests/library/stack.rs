@@ -5,10 +5,8 @@ use crate::generate::{sheet, KINDS};
 use crate::generated::Case;
 use crate::random::Random;
 use crate::text::writer::listing;
-use dirmoog::{
-    read_sheet, round, slack, write_listing, Answer, Counts, Fraction, Listable, Listed,
-};
-use dirmoog::{Lists, Reading, Rounded, SlackAnswer};
+use dirmoog::{read_sheet, round, round_half_up, slack, write_listing};
+use dirmoog::{Answer, Counts, Fraction, Listable, Listed, Lists, Reading, Rounded, SlackAnswer};
 use std::thread::{scope, Builder};
 
 const STACK: usize = 32 * 1024;
@@ -34,6 +32,9 @@ fn layouts() {
         let answer = on_little(|| lent.call(&sheet));
         assert_eq!(answer, again.call(&sheet));
         assert_eq!(lent, again);
+        if answer == Answer::Placed {
+            again.records(&sheet);
+        }
     }
 }
 
@@ -84,6 +85,7 @@ fn listings() {
 #[test]
 fn single_fractions() {
     assert_eq!(on_little(|| round(-3, 2)), Rounded::Whole(-2));
+    assert_eq!(on_little(|| round_half_up(-3, 2)), Rounded::Whole(-1));
     let place = |num, den| Fraction { num, den };
     let (left, right) = (place(-5_472_000_000, 4_799), place(5_471_999_999, 4_800));
     let most = place(52_986_431_995_201, 23_035_200);

@@ -1,5 +1,6 @@
 //! The station program as it is run: a failed read is no short sheet, and a failed write is told. A program of Rattle
 //! cannot set its exit status, so that is 0 each time and a failure is told on standard error alone.
+use crate::sheet::file;
 use std::fs::File;
 use std::io::Write;
 use std::os::fd::OwnedFd;
@@ -10,7 +11,7 @@ use std::thread::sleep;
 use std::time::Duration;
 
 const SHEET: &[u8] = b"label,0,0,1\r\nlabel,1,3,1\r\ngap,0,1,6\r\n";
-const LISTING: &str = "place,0,-3,2,-2\r\nplace,1,9,2,5\r\nslack,0,0,1\r\n";
+const LISTING: &str = "place,0,-3,2,-1\r\nplace,1,9,2,5\r\nslack,0,0,1\r\n";
 const UNREAD: &str = "station: the sheet could not be read\n";
 const UNWRITTEN: &str = "station: the listing could not be written\n";
 
@@ -56,10 +57,8 @@ fn a_sheet_is_listed() {
 /// Slacks above zero, and as many labels and gaps as a sheet holds.
 #[test]
 fn slacks_are_listed() {
-    let sheet = concat!(env!("CARGO_MANIFEST_DIR"), "/../sheets/nearly-touching.csv");
-    let touching = std::fs::read(sheet).expect("the sheet");
     fed(
-        &[&touching],
+        &[&file("nearly-touching.csv")],
         "place,0,-8,3,-3\r\nplace,1,7,3,2\r\nplace,2,77,2,39\r\nplace,3,85,2,43\r\n\
          slack,0,0,1\r\nslack,1,0,1\r\nslack,2,37,6\r\n",
     );
@@ -79,11 +78,18 @@ fn slacks_are_listed() {
 /// Document 02, Item 3: a blank weight counts ten.
 #[test]
 fn mixed_weights_are_listed() {
-    let sheet = concat!(env!("CARGO_MANIFEST_DIR"), "/../sheets/mixed-weights.csv");
-    let mixed = std::fs::read(sheet).expect("the sheet");
     fed(
-        &[&mixed],
+        &[&file("mixed-weights.csv")],
         "place,0,-1,1,-1\r\nplace,1,21,1,21\r\nslack,0,0,1\r\n",
+    );
+}
+
+/// Document 02, Item 4: halves go to the larger number.
+#[test]
+fn crossing_labels_are_listed() {
+    fed(
+        &[&file("crossing.csv")],
+        "place,0,1,2,1\r\nplace,1,-1,2,0\r\nslack,0,0,1\r\n",
     );
 }
 

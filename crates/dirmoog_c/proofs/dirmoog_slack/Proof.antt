@@ -5,8 +5,8 @@ use mir.Syntax.{w64}
 use mir.Val.{SFits, ofZ, toZ}
 use mir.ValLaws.{toZ-ofZ}
 use Rattle.exact.specs.declared.Fraction.{Fraction}
-use Rattle.exact.specs.declared.SlackAnswer.{SlackAnswer}
-use Rattle.exact.specs.Slack.{slackAnswer, slackGiven, numberOf}
+use Rattle.single_fractions.specs.declared.SlackAnswer.{SlackAnswer}
+use Rattle.single_fractions.specs.Slack.{slackAnswer, slackGiven, numberOf}
 use Rattle.dirmoog_c.proofs.Telling.{told-both, slack-place}
 use Rattle.dirmoog_c.proofs.dirmoog_slack.Statement.{statement}
 use Rattle.dirmoog_c.proofs.dirmoog_slack.Tie as tie

@@ -189,7 +189,7 @@ fn generated_answers() {
 /// One record for each label, then one for each gap, both in the order of their numbers.
 #[test]
 fn places_then_slacks() {
-    let places = ["place,0,-3,2,-2", "place,1,9,2,5"];
+    let places = ["place,0,-3,2,-1", "place,1,9,2,5"];
     let slacks = ["slack,0,0,1", "slack,1,14,1"];
     let mut lists = Lists::of_a_run();
     listed_as(&lists, &[places, slacks].concat());
@@ -202,6 +202,38 @@ fn places_then_slacks() {
     listed_as(&Lists::zeros(0, 2), &["slack,0,0,1", "slack,1,0,1"]);
 }
 
+/// Document 02, Item 4: a whole unit is the nearest, halves go to the larger number, 0 has no sign, and a
+/// fraction that is refused has 0.
+#[test]
+fn whole_units() {
+    let mut lists = Lists::default();
+    for (num, den) in [
+        (-5, 2),
+        (-3, 2),
+        (-2, 3),
+        (-1, 2),
+        (-1, 3),
+        (1, 2),
+        (9, 2),
+        (4_801, 4_801),
+    ] {
+        lists.place(num, den);
+    }
+    listed_as(
+        &lists,
+        &[
+            "place,0,-5,2,-2",
+            "place,1,-3,2,-1",
+            "place,2,-2,3,-1",
+            "place,3,-1,2,0",
+            "place,4,-1,3,0",
+            "place,5,1,2,1",
+            "place,6,9,2,5",
+            "place,7,4801,4801,0",
+        ],
+    );
+}
+
 /// The slack is 0/1 where an end is no label, or a place or the distance is outside its limits.
 #[test]
 fn slacks_that_cannot_be_taken() {
@@ -209,7 +241,7 @@ fn slacks_that_cannot_be_taken() {
     [
         (1, 2),
         (5_472_000_001, 1),
-        (7, 4_801),
+        (7_000, 4_801),
         (i64::MIN, 1),
         (6, 4),
     ]
@@ -218,7 +250,7 @@ fn slacks_that_cannot_be_taken() {
     let places = [
         "place,0,1,2,1",
         "place,1,5472000001,1,0",
-        "place,2,7,4801,0",
+        "place,2,7000,4801,0",
         "place,3,-9223372036854775808,1,0",
         "place,4,6,4,2",
     ];

@@ -4,13 +4,16 @@ use super::reader::read;
 use super::typed::{damage, leaves_blank, typed};
 use super::writer::listing;
 use crate::call::{refused_at, Lent};
+use crate::conditions::confirm_units;
 use crate::generate::{sheet, KINDS};
 use crate::generated::Case;
 use crate::random::Random;
+use crate::records::Records;
 use crate::refusals;
-use crate::sheet::Sheet;
+use crate::rounding::{away_from_zero, units_of};
+use crate::sheet::{file, Sheet};
 use crate::solver;
-use dirmoog::{write_listing, Answer, Listable, Listed, Reading};
+use dirmoog::{Answer, Listable, Reading};
 use std::path::Path;
 
 /// Lists that have room for every sheet.
@@ -45,13 +48,7 @@ fn answered(text: &[u8]) -> (Answer, Sheet, Lent) {
 /// What the library prints for a text.
 fn printed(text: &[u8]) -> Vec<u8> {
     let (answer, sheet, lent) = answered(text);
-    let mut out = vec![0; 24_576];
-    let listed = write_listing(answer, &lent.listable(&sheet), &mut out);
-    let Listed::Written(bytes) = listed else {
-        panic!("{listed:?}");
-    };
-    out.truncate(bytes as usize);
-    out
+    lent.printed(answer, &sheet)
 }
 
 fn refused(number: u64, place: u64) -> Vec<u8> {
@@ -86,7 +83,7 @@ fn prints(text: &[u8], records: &str) {
 fn run_of_document_01() {
     prints(
         b"label,0,0,1\r\nlabel,1,3,1\r\ngap,0,1,6\r\n",
-        "place,0,-3,2,-2\r\nplace,1,9,2,5\r\nslack,0,0,1\r\n",
+        "place,0,-3,2,-1\r\nplace,1,9,2,5\r\nslack,0,0,1\r\n",
     );
     prints(b"label,0,0,1\r\ngap,0,0,1\r\n", "refused,9,0\r\n");
     prints(
@@ -109,10 +106,8 @@ fn slacks_of_p6() {
 /// Two pairs that touch, and how far they are from each other.
 #[test]
 fn slacks_of_nearly_touching() {
-    let sheets = Path::new(env!("CARGO_MANIFEST_DIR")).join("../sheets");
-    let text = std::fs::read(sheets.join("nearly-touching.csv")).expect("the sheet");
     prints(
-        &text,
+        &file("nearly-touching.csv"),
         "place,0,-8,3,-3\r\nplace,1,7,3,2\r\nplace,2,77,2,39\r\nplace,3,85,2,43\r\n\
          slack,0,0,1\r\nslack,1,0,1\r\nslack,2,37,6\r\n",
     );
@@ -121,24 +116,65 @@ fn slacks_of_nearly_touching() {
 /// Document 02, Item 3: a blank weight counts ten, so the other label gives way. A weight of zero is no blank one.
 #[test]
 fn blank_weight_counts_ten() {
-    let sheets = Path::new(env!("CARGO_MANIFEST_DIR")).join("../sheets");
-    let text = std::fs::read(sheets.join("mixed-weights.csv")).expect("the sheet");
+    let text = file("mixed-weights.csv");
     assert_eq!(text, b"label,0,0,\r\nlabel,1,11,1\r\ngap,0,1,22\r\n");
     let records = "place,0,-1,1,-1\r\nplace,1,21,1,21\r\nslack,0,0,1\r\n";
     prints(&text, records);
     prints(b"label,0,0,10\nlabel,1,11,1\ngap,0,1,22\n", records);
     prints(
         b"label,0,0,1\nlabel,1,11,1\ngap,0,1,22\n",
-        "place,0,-11,2,-6\r\nplace,1,33,2,17\r\nslack,0,0,1\r\n",
+        "place,0,-11,2,-5\r\nplace,1,33,2,17\r\nslack,0,0,1\r\n",
     );
     prints(b"label,0,0,0\n", "refused,6,0\r\n");
     prints(b"label,0,0,\r\n", "place,0,0,1,0\r\n");
     prints(b"label,0,0,\r", "refused,10,1\r\n");
 }
 
+/// Document 02, Item 4: two labels that may cross by one unit at most. Halves go to the larger number, so that the whole
+/// units are no further apart than the gap allows.
+#[test]
+fn units_of_crossing_labels() {
+    let text = file("crossing.csv");
+    assert_eq!(text, b"label,0,2,1\r\nlabel,1,-2,1\r\ngap,0,1,-1\r\n");
+    prints(&text, "place,0,1,2,1\r\nplace,1,-1,2,0\r\nslack,0,0,1\r\n");
+}
+
+/// Holds the whole units that are printed for a placed text to every gap, and tells whether halves away from zero would
+/// break one.
+fn check_units(text: &[u8], out: &[u8]) -> bool {
+    let sheet = read(text).expect("a sheet");
+    let records = Records::of(out, &sheet);
+    confirm_units(&sheet, &records.units).expect("whole units");
+    confirm_units(&sheet, &units_of(&records.places, away_from_zero)).is_err()
+}
+
+/// The texts of the program station_cases, generated ones among them: the library prints what its file has, and the whole
+/// units meet every gap. Each text has its name in front and a byte 0 behind.
+#[test]
+fn station_cases() {
+    let cases = Path::new(env!("CARGO_MANIFEST_DIR")).join("../crates/station_cases");
+    let texts = std::fs::read(cases.join("stdin")).expect("the texts");
+    let (mut all, mut placed) = (Vec::new(), 0);
+    for entry in texts.split_inclusive(|&byte| byte == 0) {
+        let (text, end) = entry.split_at(entry.len() - 1);
+        assert_eq!(end, [0]);
+        let line = text.iter().position(|&byte| byte == b'\n').expect("a name");
+        let (name, text) = text.split_at(line + 1);
+        let out = printed(text);
+        if out.starts_with(b"place") {
+            check_units(text, &out);
+            placed += 1;
+        }
+        all.extend([name, &out].concat());
+    }
+    assert!(placed > 50, "{placed} placed");
+    let told = std::fs::read(cases.join("stdout")).expect("the listings");
+    assert!(all == told, "the listings differ from the file");
+}
+
 #[test]
 fn generated_runs() {
-    let (mut placed, mut blank) = (0, 0);
+    let (mut placed, mut blank, mut broken) = (0, 0, 0);
     for seed in 40_000_000..40_010_000 {
         let _case = Case(seed);
         let mut random = Random::new(seed);
@@ -153,7 +189,12 @@ fn generated_runs() {
         let shown = out.starts_with(b"place");
         placed += usize::from(shown);
         blank += usize::from(shown && leaves_blank(&text));
+        broken += usize::from(shown && check_units(&text, &out));
     }
     println!("runs: {placed} placed of 10000, {blank} of them with a blank weight");
     assert!(placed > 3_000 && blank > 500);
+    // so it is not by chance that the whole units meet every gap
+    let teeth = format!("halves away from zero would break a gap on {broken} sheets of {placed}");
+    println!("{teeth}");
+    assert!(broken > 20, "{teeth}");
 }

@@ -1,7 +1,7 @@
-//! A second writer of the listing, written from document 01 and document 02, Item 1, apart from the library's.
-use crate::rounding;
+//! A second writer of the listing, written from document 01 and document 02, Items 1 and 4, apart from the library's.
+use crate::rounding::{half_up, whole};
 use crate::slack;
-use dirmoog::{Answer, Fraction, Listable, Rounded, SlackAnswer};
+use dirmoog::{Answer, Fraction, Listable, SlackAnswer};
 
 /// The listing of an answer over its places and gaps.
 pub fn listing(answer: Answer, lists: &Listable<'_>) -> Vec<u8> {
@@ -28,16 +28,8 @@ fn place(lists: &Listable<'_>, label: usize) -> Option<Fraction> {
 
 fn place_record(lists: &Listable<'_>, label: usize) -> Option<String> {
     let Fraction { num, den } = place(lists, label)?;
-    let whole = whole_unit(num, den);
-    Some(format!("place,{label},{num},{den},{whole}\r\n"))
-}
-
-/// The whole unit of a fraction; 0 for one that rounding refuses.
-fn whole_unit(num: i64, den: i64) -> i64 {
-    match rounding::expected(num, den) {
-        Rounded::Whole(whole) => whole,
-        Rounded::Refused(_) => 0,
-    }
+    let unit = whole(half_up(num, den));
+    Some(format!("place,{label},{num},{den},{unit}\r\n"))
 }
 
 fn slack_record(lists: &Listable<'_>, gap: usize) -> Option<String> {

@@ -1,7 +1,7 @@
 -- `text_listing::listing::put_place` meets its contract: the word, four fields and the end behind each other; no
 -- field is longer than its share of the room.
 use borrow.Author.Needs.{needs}
-use mathlib.Core.Path.{_≡_, subst, sym, ap, ap₂, _∙_}
+use mathlib.Core.Path.{_≡_, subst, sym, ap₂, _∙_}
 use mathlib.Core.List.{_++_}
 use Prim.Native.Nat.{_≤_}
 use native.Mathlib.Omega.{arith}
@@ -9,10 +9,9 @@ use lib.ListN.{length}
 use lib.IntN.{ℤ}
 use mir.Syntax.{w64}
 use mir.ValLaws.{toZ-ofZ}
-use Rattle.exact.specs.Round.{rounded, wholeOf}
 use Rattle.algebra.proofs.Quotient.{kept}
 use Rattle.text_rows.specs.Numeral.{decimal, signedDecimal}
-use Rattle.text_listing.specs.Listing.{placeWord, placeRecord}
+use Rattle.text_listing.specs.Listing.{placeWord, placeRecord, unitOf}
 use Rattle.text_rows.specs.Lines.{next, recordEnd}
 use Rattle.text_listing.proofs.Appending.{then, told, copied}
 use Rattle.text_rows.proofs.Decimal.{length-signed-kept}
@@ -22,22 +21,22 @@ use Rattle.text_listing.proofs.listing.put_place.Tie as tie
 
 -- the whole unit, as it is read back
 unit :
-    (c : tie.After-whole-unit) → kept (c .whole-unit .result) ≡ wholeOf
-    (rounded (c .before .before .before .before .before .before .before .before .before .before .before .before
+    (c : tie.After-whole-unit) → kept (c .whole-unit .result) ≡ unitOf
+    (c .before .before .before .before .before .before .before .before .before .before .before .before
     .before .before .before .before .before .before .before .before .args .num)
     (c .before .before .before .before .before .before .before .before .before .before .before .before .before .before
-    .before .before .before .before .before .before .args .den))
+    .before .before .before .before .before .before .args .den)
 unit c =
     toZ-ofZ w64 (c .whole-unit .result) (record { sfits = c .whole-unit .ok })
     ∙ c .whole-unit .ensures
-    ∙ ap wholeOf (ap₂ rounded (toZ-ofZ w64 (c .before .before .before .before .before .before .before .before .before
+    ∙ ap₂ unitOf (toZ-ofZ w64 (c .before .before .before .before .before .before .before .before .before
     .before .before .before .before .before .before .before .before .before .before .before .args .num)
     (c .before .before .before .before .before .before .before .before .before .before .before .before .before .before
     .before .before .before .before .before .before .fits .num))
     (toZ-ofZ w64 (c .before .before .before .before .before .before .before .before .before .before .before .before
     .before .before .before .before .before .before .before .before .args .den)
     (c .before .before .before .before .before .before .before .before .before .before .before .before .before .before
-    .before .before .before .before .before .before .fits .den)))
+    .before .before .before .before .before .before .fits .den))
 
 unit-length : (c : tie.After-whole-unit) → length (signedDecimal (kept (c .whole-unit .result))) ≤ 11
 unit-length c =

@@ -4,6 +4,7 @@
 use mathlib.Core.Path.{_≡_, refl, sym, ap, _∙_}
 use Prim.Native.Nat.{ℕ, _≤_, _-_, _*_}
 use native.Mathlib.Numerals.{add-one}
+use mathlib.Core.List.{List}
 use lib.ListN.{length, getD}
 use lib.IntN.{ℤ, pos}
 use mir.Syntax.{w64}
@@ -12,15 +13,19 @@ use mir.ValLaws.{toZ-ofZ}
 use native.Mathlib.Omega.{arith}
 use Rattle.text_listing.proofs.Appending.{nothing, then, told}
 use Rattle.text_listing.specs.Appended.{Appended}
-use Rattle.text_listing.specs.Listing.{placeRoom, placeRecord, placeRecords}
+use Rattle.text_listing.specs.Listing.{placeRoom, placeRecord, placeRecords, unitAt, unitOf}
 use Rattle.text_listing.proofs.Size.{length-place-record}
 use Rattle.text_listing.proofs.listing.put_places.Statement.{statement}
 use Rattle.text_listing.proofs.listing.put_places.Tie as tie
 
+-- the records of the first labels
+abbrev records : (nums dens : List ℤ) → ℕ → List ℕ
+records nums dens n = placeRecords n nums dens (unitAt nums dens)
+
 abbrev Inv-loop : tie.InvT-loop
 Inv-loop buf₀ place-num place-den at₀ label₀ buf at label =
     (label ≤ length place-num) × (length buf ≡ length buf₀) × (at ≤ placeRoom * label) × Appended buf₀ 0
-    (placeRecords label place-num place-den) buf at
+    (records place-num place-den label) buf at
 
 abbrev μ-loop : tie.MeasureT-loop
 μ-loop buf₀ place-num place-den at₀ label₀ buf at label = length place-num - label
@@ -38,7 +43,8 @@ put :
     × SFits w64 (denominator (c .before .before .before .before .before)) × Appended
     (c .before .before .before .before .before .loop .buf) (c .before .before .before .before .before .loop .at)
     (placeRecord (c .before .before .before .before .before .loop .label)
-    (numerator (c .before .before .before .before .before)) (denominator (c .before .before .before .before .before)))
+    (numerator (c .before .before .before .before .before)) (denominator (c .before .before .before .before .before))
+    (unitOf (numerator (c .before .before .before .before .before)) (denominator (c .before .before .before .before .before))))
     (c .put-place .last .0) (c .put-place .result)
 unfolding numerator denominator
 put c =
@@ -50,7 +56,9 @@ put c =
       fd,
       told (λ i. placeRecord (c .before .before .before .before .before .loop .label)
           (toZ-ofZ w64 (numerator (c .before .before .before .before .before)) fn i)
-          (toZ-ofZ w64 (denominator (c .before .before .before .before .before)) fd i)) (c .put-place .ensures),
+          (toZ-ofZ w64 (denominator (c .before .before .before .before .before)) fd i)
+          (unitOf (toZ-ofZ w64 (numerator (c .before .before .before .before .before)) fn i)
+          (toZ-ofZ w64 (denominator (c .before .before .before .before .before)) fd i))) (c .put-place .ensures),
     )
 
 loop-holds : tie.Need-loop-holds Inv-loop μ-loop
@@ -82,6 +90,7 @@ loop-again : tie.Need-loop-again Inv-loop μ-loop
 unfolding placeRecords numerator denominator
 loop-again c =
     let l = c .before .before .before .before .before .before .before .loop in
+    let s = c .before .before .before .before .before .before .before .before .before in
     let i = l .inv in
     let p = put (c .before .before) in (
       omega arith,
@@ -95,9 +104,7 @@ loop-again c =
             (denominator (c .before .before .before .before .before .before .before)) (omega arith) (p .0) (p .1),
       ),
       told
-          (ap (λ (n : ℕ). placeRecords n (c .before .before .before .before .before .before .before .before .before
-          .args .place-num .now) (c .before .before .before .before .before .before .before .before .before .args
-          .place-den .now)) (sym (add-one (l .label))))
+          (ap (records (s .args .place-num .now) (s .args .place-den .now)) (sym (add-one (l .label))))
           (then (i .3) (p .2)),
     )
 
@@ -108,7 +115,7 @@ returns : tie.Need-returns Inv-loop μ-loop
 returns c =
     let s = c .before .before .before in
     let i = c .before .loop .inv in (
-      told (ap (λ (n : ℕ). placeRecords n (s .args .place-num .now) (s .args .place-den .now)) (omega arith)) (i .3),
+      told (ap (records (s .args .place-num .now) (s .args .place-den .now)) (omega arith)) (i .3),
       omega (arith, i .2, s .pre .0),
     )
 

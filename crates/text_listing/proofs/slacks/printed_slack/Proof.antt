@@ -6,7 +6,7 @@ use mir.Syntax.{w64}
 use mir.Val.{SFits}
 use mir.ValLaws.{toZ-ofZ}
 use Rattle.ground.specs.Entries.{nat, int}
-use Rattle.exact.specs.Slack.{slackAnswer, slackGiven}
+use Rattle.single_fractions.specs.Slack.{slackAnswer, slackGiven}
 use Rattle.text_listing.specs.Listing.{Listable, listableNow}
 use Rattle.text_listing.proofs.PrintedSlack.{left-missing, right-missing, slack-given}
 use Rattle.text_listing.proofs.slacks.printed_slack.Statement.{statement}
