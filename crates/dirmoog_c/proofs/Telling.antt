@@ -69,10 +69,10 @@ laid-place text b = go (leb (length text) (length b))
     go true = refl
     go false = refl
 
-pub listing-place : (a : Answer) (l : Listable) (b : List ℕ) → writing.refusedPlace (listedIn a l b .answer) ≡ 0
+pub listing-place : (a : Answer) (field : ℕ) (l : Listable) (b : List ℕ) → writing.refusedPlace (listedIn a field l b .answer) ≡ 0
 unfolding listedIn
-listing-place (Refused r) l b = laid-place (refusedRecord r) b
-listing-place Placed l b = go (ltb labelsMost (labelsIn l)) (ltb gapsMost (gapsIn l)) (even l)
+listing-place (Refused r) field l b = laid-place (refusedRecord r field) b
+listing-place Placed field l b = go (ltb labelsMost (labelsIn l)) (ltb gapsMost (gapsIn l)) (even l)
   where
     go : (crowded overfull as-many : Bool) → writing.refusedPlace (cond crowded (notListed 1 b) (cond overfull (notListed 2 b) (cond as-many (laid (sheetRecords l) b) (notListed 3 b))) .answer) ≡ 0
     go true overfull as-many = refl

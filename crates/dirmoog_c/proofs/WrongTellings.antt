@@ -17,11 +17,16 @@ use Rattle.exact.specs.Slack.{euclid, lowestOf}
 use Rattle.single_fractions.specs.Slack.{slackAnswer}
 use Rattle.ground.specs.declared.Answer.the-variants.{Placed}
 use Rattle.ground.specs.Answers.{numberOf, refusedPlace, refusal}
+use Rattle.text_rows.specs.Bytes.{bytes}
+use Rattle.text_rows.specs.Lines.{fields, lines}
+use Rattle.text_rows.specs.Numeral.{allDigits, digitsOf, number, signed, valueOf, weightOf}
+use Rattle.text_rows.specs.Taking.{noField, rowOf, same}
 use Rattle.text_reading.specs.declared.Reading.the-variants.{Sheet}
-use Rattle.text_listing.specs.Listing.{Listable, listedIn}
+use Rattle.text_reading.specs.Texts.{Lists, readFrom, reading}
+use Rattle.text_listing.specs.Listing.{Listable, listedIn, refusedRecord, shownField}
 use Rattle.text_listing.specs.Listing as writing
 use Rattle.dirmoog_c.specs.Exported.{RoundTold, SlackTold}
-use Rattle.dirmoog_c.specs.Texted.{readFirst, readSecond}
+use Rattle.dirmoog_c.specs.Texted.{ListingTold, ReadTold, answerOf, readFirst, readSecond}
 
 -- the place of a refusal for its number: 6 at label 1
 pub place-for-number : numberOf (refusal 6 1 0) ≢ refusedPlace (refusal 6 1 0)
@@ -30,6 +35,14 @@ place-for-number same = omega arith
 -- the count of gaps for that of labels: two labels and one gap
 pub gaps-for-labels : readFirst (Sheet (record { labels = 2; gaps = 1 })) ≢ readSecond (Sheet (record { labels = 2; gaps = 1 }))
 gaps-for-labels same = omega arith
+
+-- of a text whose label is out of turn and has a bad weight C is told 14, the line and the fourth field: neither 15, nor the
+-- field before the line, nor 0 for the field; the lists stay
+pub slip-told :
+    {x y n : ℕ} {before after : Lists} {out-after : List ℕ} → ReadTold (bytes "label,7,0,x") before (x ∷ y ∷ []) n after out-after
+    → (n ≡ 14) × (after ≡ before) × (out-after ≡ 1 ∷ 4 ∷ [])
+unfolding reading readFrom rowOf same fields lines number signed weightOf allDigits valueOf
+slip-told t = (t .returned, t .lists, t .out-told)
 
 -- a fraction rounded upside down: a third is 0, and 3 is 3
 pub fraction-upside-down : wholeOf (rounded AwayFromZero (pos 1) (pos 3)) ≢ wholeOf (rounded AwayFromZero (pos 3) (pos 1))
@@ -63,17 +76,25 @@ sized nums dens left right = record {
 
 -- denominators listed as numerators: 49 numerators are 1, and 48 beside 49 denominators are 3
 pub places-upside-down :
-    writing.numberOf (listedIn Placed (sized 49 48 0 0) [] .answer)
-    ≢ writing.numberOf (listedIn Placed (sized 48 49 0 0) [] .answer)
+    writing.numberOf (listedIn Placed noField (sized 49 48 0 0) [] .answer)
+    ≢ writing.numberOf (listedIn Placed noField (sized 48 49 0 0) [] .answer)
 unfolding listedIn
 places-upside-down same = let numbers : _≡_ {A = ℕ} 1 3 = same in omega arith
 
 -- right labels listed as left ones: 193 left labels are 2, and 192 beside 193 right ones are 3
 pub gaps-turned :
-    writing.numberOf (listedIn Placed (sized 0 0 193 192) [] .answer)
-    ≢ writing.numberOf (listedIn Placed (sized 0 0 192 193) [] .answer)
+    writing.numberOf (listedIn Placed noField (sized 0 0 193 192) [] .answer)
+    ≢ writing.numberOf (listedIn Placed noField (sized 0 0 192 193) [] .answer)
 unfolding listedIn
 gaps-turned same = let numbers : _≡_ {A = ℕ} 2 3 = same in omega arith
+
+-- a number, a place and a field that C tells are listed in this order
+pub field-listed :
+    {x n : ℕ} {text-after out-after : List ℕ}
+    → ListingTold (listedIn (answerOf 14 31) 4 (sized 0 0 0 0) (replicate 17 0)) (x ∷ []) n text-after out-after
+    → (n ≡ 0) × (text-after ≡ bytes "refused,14,31,4\r\n") × (out-after ≡ 17 ∷ [])
+unfolding listedIn refusedRecord shownField digitsOf
+field-listed t = (t .returned, t .written, t .out-told)
 
 -- ---- the slack, of two entries that hold anything
 

@@ -10,18 +10,19 @@ use Rattle.ground.specs.declared.Answer.the-variants.{Placed}
 use Rattle.ground.specs.Answers.{refusal}
 use Rattle.text_reading.specs.declared.Reading.{Reading}
 use Rattle.text_reading.specs.declared.Reading.the-variants as read
-use Rattle.text_reading.specs.Readings.{numberOf, refusedPlace, labelsOf, gapsOf}
+use Rattle.text_reading.specs.Readings.{numberOf, refusedPlace, fieldOf, labelsOf, gapsOf}
 use Rattle.text_reading.specs.Texts.{Lists, reading}
 use Rattle.text_listing.specs.Listing as writing
 use Rattle.dirmoog_c.specs.Exported.{told}
 
--- what C is told of a reading: the counts of labels and gaps, or the place and 0
+-- what C is told of a reading: the counts of labels and gaps, or the place and the bad field
 abbrev pub readFirst : Reading → ℕ
 readFirst (read.Sheet counts) = labelsOf (read.Sheet counts)
-readFirst (read.Refused r) = refusedPlace (read.Refused r)
+readFirst (read.Refused r field) = refusedPlace (read.Refused r field)
 
 abbrev pub readSecond : Reading → ℕ
-readSecond r = gapsOf r
+readSecond (read.Sheet counts) = gapsOf (read.Sheet counts)
+readSecond (read.Refused r field) = fieldOf (read.Refused r field)
 
 -- a text is read into lent lists, and what is told is told of that reading
 pub record ReadTold (text : List ℕ) (before : Lists) (out : List ℕ) (number : ℕ) (after : Lists) (out-after : List ℕ) : Type 0 where

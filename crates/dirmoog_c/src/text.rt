@@ -19,7 +19,7 @@ fn read_number(reading: Reading) -> usize
 {
     match reading {
         Reading::Sheet(_) => 0,
-        Reading::Refused(refusal) => refusal.number,
+        Reading::Refused(refusal, _) => refusal.number,
     }
 }
 
@@ -29,22 +29,22 @@ fn read_first(reading: Reading) -> usize
 {
     match reading {
         Reading::Sheet(counts) => counts.labels,
-        Reading::Refused(refusal) => refusal.place,
+        Reading::Refused(refusal, _) => refusal.place,
     }
 }
 
-// The count of gaps, or 0 for a refusal.
+// The count of gaps, or the bad field of a refusal.
 fn read_second(reading: Reading) -> usize
     ensures { λ r. ⌜ r ≡ readSecond reading ⌝ }
 {
     match reading {
         Reading::Sheet(counts) => counts.gaps,
-        Reading::Refused(_) => 0,
+        Reading::Refused(_, field) => field,
     }
 }
 
 // Reads a text into lent lists. Gives 0 or the refusal's number;
-// out is told the counts of labels and gaps, or the place and 0.
+// out is told the counts of labels and gaps, or the place and the bad field.
 #[no_mangle]
 pub extern "C" fn dirmoog_read(
     text: &[u8],
@@ -107,6 +107,7 @@ fn listed_bytes(listed: Listed) -> usize
 pub extern "C" fn dirmoog_listing(
     number: usize,
     place: usize,
+    field: usize,
     place_num: &[i64],
     place_den: &[i64],
     left: &[usize],
@@ -117,11 +118,20 @@ pub extern "C" fn dirmoog_listing(
 ) -> usize
     ensures { λ r.
         let l = writing.listableLent «place_num» «place_den» left right distance in
-        let listed = writing.listedIn (answerOf number place) l (before text) in
+        let listed = writing.listedIn (answerOf number place) field l (before text) in
         ⌜ ListingTold listed (before out) r (after text) (after out) ⌝ }
 {
     let answer = answer_of(number, place);
-    let listed = write_listing(answer, place_num, place_den, left, right, distance, text);
+    let listed = write_listing(
+        answer,
+        field,
+        place_num,
+        place_den,
+        left,
+        right,
+        distance,
+        text,
+    );
     put(out, 0, listed_bytes(listed));
     listed_number(listed)
 }

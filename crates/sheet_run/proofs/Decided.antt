@@ -21,6 +21,7 @@ use Rattle.layout.specs.Promise.{Accepted}
 use Rattle.ground.specs.Entries.{Filled}
 use Rattle.ground.specs.Answers.{refusal, ringLengthOf}
 use Rattle.layout.proofs.Facts.{refused-by-table, judged, places-known}
+use Rattle.text_rows.specs.Taking.{noField}
 use Rattle.text_reading.specs.declared.Counts.{Counts}
 use Rattle.text_reading.specs.declared.Reading.{Reading}
 use Rattle.text_reading.specs.declared.Reading.the-variants.{Sheet, Refused}
@@ -30,7 +31,7 @@ use Rattle.sheet_run.specs.Run.{LaidFrom, PrintedFor, Run, zeroLists, le
 use Rattle.sheet_run.proofs.Refusals.{SmallReading, small-reading}
 
 -- a refusal's ring is not printed
-ring-unprinted : (number place ring ring′ : ℕ) → refusedRecord (record { number = number; place = place; ring = ring }) ≡ refusedRecord (record { number = number; place = place; ring = ring′ })
+ring-unprinted : (number place ring ring′ : ℕ) → refusedRecord (record { number = number; place = place; ring = ring }) noField ≡ refusedRecord (record { number = number; place = place; ring = ring′ }) noField
 unfolding refusedRecord
 ring-unprinted number place ring ring′ = refl
 
@@ -69,9 +70,9 @@ module _ (c : Counts) (l : Lists) (few : c .labels ≤ 48) (known : c .labels �
   both-refused : (number place ring ring′ : ℕ) → one .answer ≡ refusal number place ring → two .answer ≡ refusal number place ring′ → p ≡ q
   both-refused number place ring ring′ a b =
       one .listed
-      ∙ ap (λ (x : Answer). listing x (listableRead c l (one .after))) a
+      ∙ ap (λ (x : Answer). listing x noField (listableRead c l (one .after))) a
       ∙ ring-unprinted number place ring ring′
-      ∙ sym (ap (λ (x : Answer). listing x (listableRead c l (two .after))) b)
+      ∙ sym (ap (λ (x : Answer). listing x noField (listableRead c l (two .after))) b)
       ∙ sym (two .listed)
 
   both-placed : one .answer ≡ answer.Placed → Accepted (sheetOf (sheetRead c l)) w (one .after) → two .answer ≡ answer.Placed
@@ -115,5 +116,5 @@ run-same {text} {before} {before′} {after} {after′} {n} {n′} one two =
     go (reading text zeroLists .answer) (reading text zeroLists .lists) (small-reading text zeroLists) (one .prints) (two .prints)
   where
     go : (r : Reading) (l : Lists) → SmallReading r l → PrintedFor r l (take n after) → PrintedFor r l (take n′ after′) → take n after ≡ take n′ after′
-    go (Refused x) l s a b = a ∙ sym b
+    go (Refused x field) l s a b = a ∙ sym b
     go (Sheet c) l s a b = start-unseen c l (s .0) (s .2) refl refl a b

@@ -19,6 +19,7 @@ use Rattle.ground.specs.declared.Answer.the-variants as answer
 use Rattle.sheet_checks.specs.Lent.{Written, labelCount, sheetOf}
 use Rattle.layout.specs.Promise.{Promise, Accepted}
 use Rattle.layout.proofs.Facts.{placed-accepted}
+use Rattle.text_rows.specs.Taking.{noField}
 use Rattle.text_reading.specs.declared.Counts.{Counts}
 use Rattle.text_reading.specs.declared.Reading.{Reading}
 use Rattle.text_reading.specs.declared.Reading.the-variants.{Sheet, Refused}
@@ -33,10 +34,10 @@ take-most zero l = omega arith
 take-most (suc n) [] = omega arith
 take-most (suc n) (x ∷ l) = omega (arith, take-most n l)
 
-pub refused-most : (r : Refusal) → Small r → length (refusedRecord r) ≤ listingRoom
-refused-most r s =
+pub refused-most : (r : Refusal) (field : ℕ) → Small r → field ≤ 4 → length (refusedRecord r field) ≤ listingRoom
+refused-most r field s f =
     omega
-    (arith, length-refused-record r (record { fits = omega (arith, s .0) }) (record { fits = omega (arith, s .1) }))
+    (arith, length-refused-record r field (record { fits = omega (arith, s .0) }) (record { fits = omega (arith, s .1) }) (record { fits = omega arith }))
 
 -- the first numbers of a list fit if each within its first n is small
 first-fit : (n : ℕ) (l : List ℤ) → ((k : ℕ) → k < n → natAbs (getD l k (pos 0)) ≤ 5472000000) → AllFit (take n l)
@@ -53,7 +54,7 @@ module _ (c : Counts) (l : Lists) (w after : Written) (few : c .labels ≤ 48) (
   counted = length-take-le (c .labels) (l .wanted) known
 
   -- "Every place is over a denominator of at most 4,800 and lies within 1,140,000 of zero"; any slack fits its record
-  placed-most : Accepted (sheetOf (sheetRead c l)) w after → length (listing answer.Placed (listableRead c l after)) ≤ listingRoom
+  placed-most : Accepted (sheetOf (sheetRead c l)) w after → length (listing answer.Placed noField (listableRead c l after)) ≤ listingRoom
   unfolding sheetOf
   placed-most a =
       omega (
@@ -64,10 +65,11 @@ module _ (c : Counts) (l : Lists) (w after : Written) (few : c .labels ≤ 48) (
       )
 
   -- its listing
-  pub laid-out-most : (a : Answer) → Promise (sheetRead c l) w a after → length (listing a (listableRead c l after)) ≤ listingRoom
+  pub laid-out-most : (a : Answer) → Promise (sheetRead c l) w a after → length (listing a noField (listableRead c l after)) ≤ listingRoom
   laid-out-most (answer.Refused x) p =
-      refused-most x
+      refused-most x noField
       (small-answer (sheetRead c l) w (answer.Refused x) after (omega (arith, counted)) (omega (arith, take-most (c .gaps) (l .left))) p)
+      (omega arith)
   laid-out-most answer.Placed p = placed-most (placed-accepted p refl)
 
 -- what is printed for any text has at most 24,576 bytes
@@ -75,5 +77,5 @@ pub printed-most : (text printed : List ℕ) → PrintedFor (reading text zeroLi
 printed-most text printed h = go (reading text zeroLists .answer) (reading text zeroLists .lists) (small-reading text zeroLists) h
   where
     go : (r : Reading) (l : Lists) → SmallReading r l → PrintedFor r l printed → length printed ≤ listingRoom
-    go (Refused x) l s e = rw e (refused-most x s)
+    go (Refused x f) l s e = rw e (refused-most x f (s .0) (s .1 .field-most))
     go (Sheet c) l s d = rw (d .listed) (laid-out-most c l (lent c) (d .after) (s .0) (s .1) (s .2) (d .answer) (d .promise))

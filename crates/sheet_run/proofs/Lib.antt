@@ -7,4 +7,5 @@ pub mod PlacedRuns
 pub mod Document
 pub mod Slacks
 pub mod Units
+pub mod RefusedRuns
 pub mod WrongRuns

@@ -16,6 +16,7 @@ use Rattle.sheet_checks.specs.Lent.{Read, sheetOf}
 use Rattle.layout.specs.BenchCalls.{as-lists, lend, LentWith, EachCall, PlacedSo}
 use Rattle.layout.specs.Promise.{Accepted, Promise}
 use Rattle.layout.proofs.Facts.{placed-accepted}
+use Rattle.text_rows.specs.Taking.{noField}
 use Rattle.text_reading.specs.declared.Reading.the-variants.{Sheet as sheet-of}
 use Rattle.text_reading.specs.Texts.{Done, Typed, countsOf, filled, reading}
 use Rattle.text_listing.specs.Listing.{Listable, listing}
@@ -78,8 +79,8 @@ module _ {text : List ℕ} {t : Typed} {c : Placed} (tells : Tells text t c) (la
         (omega (arith, tells .per-label, tells .few, accepted .place-dens .size, length-replicate labelsMost (pos 0)))
         (λ k h. ap (λ (f : Fraction). f .den) (place-at k h)))
 
-    prints : printed ≡ listing answer.Placed (listed t c)
+    prints : printed ≡ listing answer.Placed noField (listed t c)
     prints = laid .listed ∙ rw (known .answered, nums, dens)
 
-  pub placed-prints : {before after : List ℕ} {n : ℕ} → Run text before n after → take n after ≡ listing answer.Placed (listed t c)
+  pub placed-prints : {before after : List ℕ} {n : ℕ} → Run text before n after → take n after ≡ listing answer.Placed noField (listed t c)
   placed-prints r = prints (laid-out t (tells .typed) r)

@@ -20,13 +20,13 @@ take-replicate x zero m h = refl
 take-replicate x (suc n) zero h = absurd (omega arith)
 take-replicate x (suc n) (suc m) h = ap (λ l. x ∷ l) (take-replicate x n m (omega arith))
 
-module _ (a : Answer) (l : Listable) (b : List ℕ) (within : Within l) (fits : length (listing a l) ≤ length b) where
-  whole : listedIn a l b ≡ record { answer = Written (length (listing a l)); buffer = listing a l ++ drop (length (listing a l)) b }
+module _ (a : Answer) (field : ℕ) (l : Listable) (b : List ℕ) (within : Within l) (fits : length (listing a field l) ≤ length b) where
+  whole : listedIn a field l b ≡ record { answer = Written (length (listing a field l)); buffer = listing a field l ++ drop (length (listing a field l)) b }
   unfolding listedIn
   whole = go a fits
     where
-      go : (x : Answer) → length (listing x l) ≤ length b
-          → listedIn x l b ≡ record { answer = Written (length (listing x l)); buffer = listing x l ++ drop (length (listing x l)) b }
+      go : (x : Answer) → length (listing x field l) ≤ length b
+          → listedIn x field l b ≡ record { answer = Written (length (listing x field l)); buffer = listing x field l ++ drop (length (listing x field l)) b }
       go answer.Placed h =
           rw (
             le-ltb labelsMost (labelsIn l) (within .labels),
@@ -38,22 +38,22 @@ module _ (a : Answer) (l : Listable) (b : List ℕ) (within : Within l) (fits : 
           )
       go (answer.Refused r) h = rw (le-leb _ _ h)
 
-  pub never-refused : {r : Refusal} → Refused r ≡ listedIn a l b .answer → ⊥
+  pub never-refused : {r : Refusal} → Refused r ≡ listedIn a field l b .answer → ⊥
   never-refused {r} e =
-      let k : Refused r ≡ Written (length (listing a l)) = e ∙ ap (λ (d : Listing). d .answer) whole in
+      let k : Refused r ≡ Written (length (listing a field l)) = e ∙ ap (λ (d : Listing). d .answer) whole in
       let z : _≡_ {A = ℕ} 0 1 = cc in
       omega arith
 
-  pub printed : (n : ℕ) (after : List ℕ) → length b ≡ listingRoom → Written n ≡ listedIn a l b .answer → after ≡ listedIn a l b .buffer → Printed (listing a l) b n after
+  pub printed : (n : ℕ) (after : List ℕ) → length b ≡ listingRoom → Written n ≡ listedIn a field l b .answer → after ≡ listedIn a field l b .buffer → Printed (listing a field l) b n after
   printed n after size e laid =
-      let k : Written n ≡ Written (length (listing a l)) = e ∙ ap (λ (d : Listing). d .answer) whole in
-      let counted : n ≡ length (listing a l) = cc in
-      let over : after ≡ listing a l ++ drop (length (listing a l)) b = laid ∙ ap (λ (d : Listing). d .buffer) whole in
+      let k : Written n ≡ Written (length (listing a field l)) = e ∙ ap (λ (d : Listing). d .answer) whole in
+      let counted : n ≡ length (listing a field l) = cc in
+      let over : after ≡ listing a field l ++ drop (length (listing a field l)) b = laid ∙ ap (λ (d : Listing). d .buffer) whole in
       rw (over, counted) (record {
         within = omega arith;
-        front = take-at (listing a l) (drop (length (listing a l)) b) (length (listing a l)) refl;
+        front = take-at (listing a field l) (drop (length (listing a field l)) b) (length (listing a field l)) refl;
         rest = record {
           size = simp (length-append, length-drop) (omega arith);
-          beyond = drop-at (listing a l) (drop (length (listing a l)) b) (length (listing a l)) refl;
+          beyond = drop-at (listing a field l) (drop (length (listing a field l)) b) (length (listing a field l)) refl;
         };
       })

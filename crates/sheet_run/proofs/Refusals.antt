@@ -23,13 +23,14 @@ use Rattle.text_rows.specs.declared.Row.{Row}
 use Rattle.text_reading.specs.declared.Reading.{Reading}
 use Rattle.text_reading.specs.declared.Reading.the-variants.{Sheet, Refused}
 use Rattle.text_rows.specs.Lines.{lines, push, startsWith, lineFeed, carriageReturn}
-use Rattle.text_rows.specs.Taking.{taken}
-use Rattle.text_reading.specs.Texts.{Typed, nothingTyped, add, Outcome, bad-line, sheet, follow, readFrom}
+use Rattle.text_rows.specs.Taking.{FieldTold, badField, badNumber, noField, taken}
+use Rattle.text_rows.proofs.BadLines.{no-field, taken-told}
+use Rattle.text_reading.specs.Texts.{Typed, nothingTyped, add, earlierOf, Outcome, bad-line, sheet, follow, readFrom}
 use Rattle.text_reading.specs.Texts.{outcome, Lists, Done, roomFor, filled, refusedWith, countsOf, settled, judged, reading, textMost}
 
 -- a refusal whose number and place are small
 abbrev pub Small : Refusal → Type 0
-Small r = (r .number ≤ 11) × (r .place ≤ textMost)
+Small r = (r .number ≤ 15) × (r .place ≤ textMost)
 
 -- ---- a text
 
@@ -48,27 +49,33 @@ lines-most (b ∷ bs) = go (lines-most bs) (eqb b lineFeed) (eqb b carriageRetur
     go h false true = omega arith
     go h false false = omega (arith, push-most b (lines bs))
 
--- a bad line's number is below this
+-- a bad line is one below this
 abbrev LineBelow : ℕ → Outcome → Type 0
-LineBelow most (bad-line n) = n < most
+LineBelow most (bad-line n number field) = (n < most) × FieldTold number field
 LineBelow most (sheet t) = Unit {0}
 
 line-below : (ls : List (List ℕ)) (n : ℕ) (t : Typed) (most : ℕ) → n + length ls ≤ most → LineBelow most (readFrom ls n t)
 unfolding readFrom
 line-below [] n t most h = tt
-line-below (l ∷ ls) n t most h = go (taken (length (t .labels)) l) (λ row. line-below ls (suc n) (add t row) most (omega arith))
+line-below (l ∷ ls) n t most h = go (taken (earlierOf t) l) (taken-told (earlierOf t) l) (λ row. line-below ls (suc n) (add t row) most (omega arith))
   where
-    go : (k : Taken) → ((row : Row) → LineBelow most (readFrom ls (suc n) (add t row))) → LineBelow most (follow k n t (readFrom ls (suc n)))
-    go Bad later = omega arith
-    go (Good row) later = later row
+    go :
+        (k : Taken) → FieldTold (badNumber k) (badField k) → ((row : Row) → LineBelow most (readFrom ls (suc n) (add t row)))
+        → LineBelow most (follow k n t (readFrom ls (suc n)))
+    go (Bad number field) told later = (omega arith, told)
+    go (Good row) told later = later row
 
 -- a reading is a small refusal, or a sheet within the limits of document 01 whose labels stand in the list
 abbrev pub SmallReading : Reading → Lists → Type 0
-SmallReading (Refused r) l = Small r
+SmallReading (Refused r field) l = Small r × FieldTold (r .number) field
 SmallReading (Sheet c) l = (c .labels ≤ 48) × (c .gaps ≤ 192) × (c .labels ≤ length (l .wanted))
 
 abbrev SmallDone : Done → Type 0
 SmallDone d = SmallReading (d .answer) (d .lists)
+
+-- one of the whole text, which names no field
+small : (number : ℕ) → number ≤ 12 → ((number ≤ 15) × (0 ≤ textMost)) × FieldTold number noField
+small number h = ((omega arith, omega arith), no-field number h)
 
 labels-filled : (t : Typed) (b : Lists) → length (t .labels) ≤ length (filled t b .wanted)
 unfolding filled
@@ -79,22 +86,22 @@ small-settled t b = go (ltb 48 (length (t .labels))) refl (ltb 192 (length (t .g
   where
     go :
         (crowded : Bool) → ltb 48 (length (t .labels)) ≡ crowded → (gapped : Bool) → ltb 192 (length (t .gaps)) ≡ gapped → (room : Bool) →
-        SmallDone (cond crowded (refusedWith 1 0 b) (cond gapped (refusedWith 2 0 b) (cond room (record { answer = Sheet (countsOf t); lists = filled t b }) (refusedWith 4 0 b))))
-    go true e gapped g room = (omega arith, omega arith)
-    go false e true g room = (omega arith, omega arith)
-    go false e false g false = (omega arith, omega arith)
+        SmallDone (cond crowded (refusedWith 1 0 noField b) (cond gapped (refusedWith 2 0 noField b) (cond room (record { answer = Sheet (countsOf t); lists = filled t b }) (refusedWith 4 0 noField b))))
+    go true e gapped g room = small 1 (omega arith)
+    go false e true g room = small 2 (omega arith)
+    go false e false g false = small 4 (omega arith)
     go false e false g true = (ltb-false 48 (length (t .labels)) e, ltb-false 192 (length (t .gaps)) g, labels-filled t b)
 
 small-judged : (o : Outcome) (b : Lists) → LineBelow (suc textMost) o → SmallDone (judged o b)
-small-judged (bad-line n) b h = (omega arith, omega arith)
+small-judged (bad-line n number field) b h = ((h .1 .number-most, omega (arith, h .0)), h .1)
 small-judged (sheet t) b h = small-settled t b
 
 pub small-reading : (text : List ℕ) (b : Lists) → SmallReading (reading text b .answer) (reading text b .lists)
 unfolding reading
 small-reading text b = go (ltb textMost (length text)) refl
   where
-    go : (long : Bool) → ltb textMost (length text) ≡ long → SmallDone (cond long (refusedWith 11 0 b) (judged (outcome text) b))
-    go true e = (omega arith, omega arith)
+    go : (long : Bool) → ltb textMost (length text) ≡ long → SmallDone (cond long (refusedWith 11 0 noField b) (judged (outcome text) b))
+    go true e = small 11 (omega arith)
     go false e =
         small-judged (outcome text) b
         (line-below (lines text) 1 nothingTyped (suc textMost) (omega (arith, lines-most text, ltb-false textMost (length text) e)))

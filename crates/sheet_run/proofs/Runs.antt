@@ -9,6 +9,7 @@ use lib.IntN.{ℤ}
 use Rattle.ground.specs.declared.Refusal.{Refusal}
 use Rattle.ground.specs.declared.Answer.{Answer}
 use Rattle.ground.specs.Entries.{Filled}
+use Rattle.text_rows.specs.Taking.{noField}
 use Rattle.text_reading.specs.declared.Counts.{Counts}
 use Rattle.text_reading.specs.declared.Reading.{Reading}
 use Rattle.text_reading.specs.declared.Reading.the-variants.{Sheet, Refused}
@@ -41,15 +42,15 @@ within-read c l nums dens h is-nums is-dens = record {
 }
 
 module _ (c : Counts) (l : Lists) (a : Answer) (nums dens : List ℤ) (given : Answered c l (zeros 48) (zeros 48) a nums dens) where
-  pub answered-most : Holds c l → length (listing a (listed-over c l nums dens)) ≤ listingRoom
+  pub answered-most : Holds c l → length (listing a noField (listed-over c l nums dens)) ≤ listingRoom
   answered-most h =
       rw (← given .nums-left, ← given .dens-left)
       (laid-out-most c l (lentOver c (zeros 48) (zeros 48)) (given .after) (h .labels) (h .gaps) (omega (arith, h .labels, h .wanted)) a (given .promise))
 
-  laid-out : (printed : List ℕ) → printed ≡ listing a (listed-over c l nums dens) → LaidOut c l printed
+  laid-out : (printed : List ℕ) → printed ≡ listing a noField (listed-over c l nums dens) → LaidOut c l printed
   laid-out printed e = record { answer = a; after = given .after; promise = given .promise; listed = rw (given .nums-left, given .dens-left) e }
 
-  pub printed-read : (b : List ℕ) (n : ℕ) (after : List ℕ) → Printed (listing a (listed-over c l nums dens)) b n after → PrintedRead c l b n after
+  pub printed-read : (b : List ℕ) (n : ℕ) (after : List ℕ) → Printed (listing a noField (listed-over c l nums dens)) b n after → PrintedRead c l b n after
   printed-read b n after p = record { within = p .within; front = laid-out (take n after) (p .front); rest = p .rest }
 
 -- ---- the text
@@ -58,8 +59,10 @@ module _ (text : List ℕ) (r : Reading) (l : Lists) (into : ReadInto text zeroL
   small : SmallReading r l
   small = subst (λ (d : Done). SmallReading (d .answer) (d .lists)) (sym into) (small-reading text zeroLists)
 
-  pub refusal-most : (x : Refusal) → r ≡ Refused x → length (refusedRecord x) ≤ listingRoom
-  refusal-most x e = refused-most x (subst (λ (q : Reading). SmallReading q l) e small)
+  pub refusal-most : (x : Refusal) (field : ℕ) → r ≡ Refused x field → length (refusedRecord x field) ≤ listingRoom
+  refusal-most x field e =
+      let k : SmallReading (Refused x field) l = subst (λ (q : Reading). SmallReading q l) e small in
+      refused-most x field (k .0) (k .1 .field-most)
 
   pub within-limits : (c : Counts) → r ≡ Sheet c → SmallReading (Sheet c) l
   within-limits c e = subst (λ (q : Reading). SmallReading q l) e small
@@ -68,8 +71,10 @@ module _ (text : List ℕ) (r : Reading) (l : Lists) (into : ReadInto text zeroL
   run b n after within prints rest =
       record { within = within; prints = subst (λ (d : Done). PrintedFor (d .answer) (d .lists) (take n after)) into prints; rest = rest }
 
-  pub run-refused : (x : Refusal) → r ≡ Refused x → (b : List ℕ) (n : ℕ) (after : List ℕ) → Printed (refusedRecord x) b n after → Run text b n after
-  run-refused x e b n after p = run b n after (p .within) (subst (λ (q : Reading). PrintedFor q l (take n after)) (sym e) (p .front)) (p .rest)
+  pub run-refused :
+      (x : Refusal) (field : ℕ) → r ≡ Refused x field → (b : List ℕ) (n : ℕ) (after : List ℕ) → Printed (refusedRecord x field) b n after
+      → Run text b n after
+  run-refused x field e b n after p = run b n after (p .within) (subst (λ (q : Reading). PrintedFor q l (take n after)) (sym e) (p .front)) (p .rest)
 
   pub run-read : (c : Counts) → r ≡ Sheet c → (b : List ℕ) (n : ℕ) (after : List ℕ) → PrintedRead c l b n after → Run text b n after
   run-read c e b n after p = run b n after (p .within) (subst (λ (q : Reading). PrintedFor q l (take n after)) (sym e) (p .front)) (p .rest)

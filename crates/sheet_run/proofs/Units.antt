@@ -19,6 +19,7 @@ use Rattle.sheet_checks.specs.Lent.{Read, Written, labelCount, placeOf, sheetOf
 use Rattle.layout.specs.Promise.{Accepted, Promise}
 use Rattle.layout.proofs.Facts.{placed-accepted, placed-proper}
 use Rattle.layout.proofs.Laws.{place-rounded, place-within}
+use Rattle.text_rows.specs.Taking.{noField}
 use Rattle.text_reading.specs.declared.Counts.{Counts}
 use Rattle.text_reading.specs.declared.Reading.{Reading}
 use Rattle.text_reading.specs.declared.Reading.the-variants.{Sheet}
@@ -50,7 +51,7 @@ module _ {r : Read} {w after : Written} (promise : Promise r w Placed after) (l 
 -- ---- a run
 
 printed-units : (c : Counts) (l : Lists) {w after : Written} {printed : List ℕ} → Promise (sheetRead c l) w Placed after
-    → printed ≡ listing Placed (listableRead c l after) → UnitsShown c l after printed
+    → printed ≡ listing Placed noField (listableRead c l after) → UnitsShown c l after printed
 printed-units c l {after = after} promise is = record {
   shown = is;
   every = enough-read c l promise;
@@ -63,7 +64,7 @@ printed-units c l {after = after} promise is = record {
 pub laid-units : {w : Written} {c : Counts} {l : Lists} {printed : List ℕ} (laid : LaidFrom w c l printed) → laid .answer ≡ Placed → UnitsShown c l (laid .after) printed
 laid-units {w} {c} {l} laid placed =
     printed-units c l (subst (λ (a : Answer). Promise (sheetRead c l) w a (laid .after)) placed (laid .promise))
-    (laid .listed ∙ ap (λ (a : Answer). listing a (listableRead c l (laid .after))) placed)
+    (laid .listed ∙ ap (λ (a : Answer). listing a noField (listableRead c l (laid .after))) placed)
 
 -- and of every run on a text that is read as a sheet
 pub run-units : {text before after : List ℕ} {n : ℕ} {c : Counts} → Run text before n after → reading text zeroLists .answer ≡ Sheet c

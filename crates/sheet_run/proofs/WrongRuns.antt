@@ -12,10 +12,11 @@ use Rattle.sheet_checks.specs.Refusals.{offenderBelow, tableOf}
 use Rattle.layout.proofs.Facts.{refused-by-table}
 use Rattle.text_rows.specs.Numeral.{digitsOf}
 use Rattle.text_rows.specs.Bytes.{bytes}
+use Rattle.text_rows.specs.Taking.{noField}
 use Rattle.text_reading.specs.Texts.{countsOf, filled, reading, roomFor}
 use Rattle.text_reading.proofs.Examples.{document-text, mixed-text, crossing-text}
 use Rattle.text_reading.proofs.WrongReadings.{zero-text, zero-sheet, zero-typed}
-use Rattle.text_listing.specs.Listing.{listing, placeRecord, placeRecords, refusedRecord}
+use Rattle.text_listing.specs.Listing.{listing, placeRecord, placeRecords, refusedRecord, shownField}
 use Rattle.text_listing.proofs.Samples.{first-record, second-record, slack-record}
 use Rattle.sheet_run.specs.Run.{LaidOut, Run, zeroLists, listableRead}
 use Rattle.sheet_run.proofs.PlacedRuns.{laid-out}
@@ -28,7 +29,7 @@ nothing-told r = let first : _≡_ {A = ℕ} 0 112 = ap (λ (l : List ℕ). getD
 -- numerators and denominators change places: the first record's numerator is 2, and not -3
 pub places-swapped :
     {before after : List ℕ} {n : ℕ} → Run document-text before n after →
-    take n after ≡ listing Placed (record {
+    take n after ≡ listing Placed noField (record {
       place-num = pos 2 ∷ pos 2 ∷ [];
       place-den = negsuc 2 ∷ pos 9 ∷ [];
       left = 0 ∷ [];
@@ -77,17 +78,17 @@ blank-counts-one r one =
     omega arith
 
 -- a weight of zero that is typed does not count ten: it is refused with 6, as a lent one is
-pub typed-zero-refused : {before after : List ℕ} {n : ℕ} → Run zero-text before n after → take n after ≡ bytes "refused,6,0\r\n"
-unfolding reading roomFor filled tableOf offenderBelow refusedRecord digitsOf
+pub typed-zero-refused : {before after : List ℕ} {n : ℕ} → Run zero-text before n after → take n after ≡ bytes "refused,6,0,0\r\n"
+unfolding reading roomFor filled tableOf offenderBelow refusedRecord shownField digitsOf
 typed-zero-refused {after = after} {n = n} r =
-    laid .listed ∙ ap (λ (a : Answer). listing a (listableRead (countsOf zero-sheet) (filled zero-sheet zeroLists) (laid .after))) (refused-by-table (laid .promise) refl .0)
+    laid .listed ∙ ap (λ (a : Answer). listing a noField (listableRead (countsOf zero-sheet) (filled zero-sheet zeroLists) (laid .after))) (refused-by-table (laid .promise) refl .0)
   where
     laid : LaidOut (countsOf zero-sheet) (filled zero-sheet zeroLists) (take n after)
     laid = laid-out zero-sheet (rw zero-typed) r
 
 -- a blank weight is refused, as a lent weight of zero is
 pub blank-refused :
-    {before after : List ℕ} {n : ℕ} → Run mixed-text before n after → take n after ≡ bytes "refused,6,0\r\n" → ⊥
+    {before after : List ℕ} {n : ℕ} → Run mixed-text before n after → take n after ≡ bytes "refused,6,0,0\r\n" → ⊥
 blank-refused r told =
     let first : _≡_ {A = ℕ} 114 112 = ap (λ (l : List ℕ). getD l 0 0) (sym told ∙ mixed-prints r) in
     omega arith

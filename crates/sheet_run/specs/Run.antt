@@ -14,6 +14,7 @@ use Rattle.least_move.specs.WholeUnits.{Units, UnitsMeet}
 use Rattle.sheet_checks.specs.Lent.{Read, Written, labelCount, lists, placeOf, sheetOf}
 use Rattle.layout.specs.Promise.{Promise}
 use Rattle.ground.specs.Entries.{Filled}
+use Rattle.text_rows.specs.Taking.{noField}
 use Rattle.text_reading.specs.declared.Counts.{Counts}
 use Rattle.text_reading.specs.declared.Reading.{Reading}
 use Rattle.text_reading.specs.declared.Reading.the-variants.{Sheet, Refused}
@@ -68,7 +69,7 @@ pub record LaidFrom (w : Written) (c : Counts) (l : Lists) (printed : List ℕ) 
   pub answer : Answer
   pub after : Written
   pub promise : Promise (sheetRead c l) w answer after
-  pub listed : printed ≡ listing answer (listableRead c l after)
+  pub listed : printed ≡ listing answer noField (listableRead c l after)
 
 -- the whole unit that is printed for each label
 abbrev pub unitsPrinted : Counts → Lists → Written → Units
@@ -92,9 +93,9 @@ pub record UnitsShown (c : Counts) (l : Lists) (after : Written) (printed : List
 abbrev pub LaidOut : Counts → Lists → List ℕ → Type 0
 LaidOut c l printed = LaidFrom (lent c) c l printed
 
--- what is printed for a reading: "A refused sheet prints only: refused, number, place"
+-- what is printed for a reading: "A refused sheet prints only: refused, number, place" and the field
 abbrev pub PrintedFor : Reading → Lists → List ℕ → Type 0
-PrintedFor (Refused r) l printed = printed ≡ refusedRecord r
+PrintedFor (Refused r field) l printed = printed ≡ refusedRecord r field
 PrintedFor (Sheet c) l printed = LaidOut c l printed
 
 -- the whole of a run: the first n bytes of the buffer are what is printed for the text, and the rest stays

@@ -9,6 +9,7 @@ use text_listing::listing::write_listing;
 use text_reading::Counts;
 use text_reading::Reading;
 use text_reading::read::read_sheet;
+use text_rows::NO_FIELD;
 ghost use Prim.Native.Nat.{_≤_};
 ghost use lib.ListN.{length};
 ghost use Rattle.text_listing.specs.Listing.{Within, listableLent, listableNow, listing, listingRoom};
@@ -58,6 +59,7 @@ fn lay_out_read(
 // Prints an answer with the places of its labels and the slacks of its gaps, and tells how many bytes.
 fn print(
     answer: Answer,
+    field: usize,
     place_num: &[i64],
     place_den: &[i64],
     left: &[usize],
@@ -66,13 +68,14 @@ fn print(
     out: &mut [u8; LISTING_ROOM],
 ) -> usize
     requires { let l = listableNow «place_num» «place_den» left right distance in
-        ⌜ Within l × (length (listing answer l) ≤ listingRoom) ⌝ }
+        ⌜ Within l × (length (listing answer field l) ≤ listingRoom) ⌝ }
     ensures { λ r.
         let l = listableLent «place_num» «place_den» left right distance in
-        ⌜ Printed (listing answer l) (before out) r (after out) ⌝ }
+        ⌜ Printed (listing answer field l) (before out) r (after out) ⌝ }
 {
     let Listed::Written(size) = write_listing(
         answer,
+        field,
         place_num,
         place_den,
         left,
@@ -117,6 +120,7 @@ fn print_read(
     );
     print(
         answer,
+        NO_FIELD,
         &place_num[..labels],
         &place_den[..labels],
         &left[..gaps],
@@ -144,7 +148,10 @@ pub fn run_sheet(text: &[u8], out: &mut [u8; LISTING_ROOM]) -> usize
         &mut distance,
     );
     match found {
-        Reading::Refused(refusal) => print(Answer::Refused(refusal), &[], &[], &[], &[], &[], out),
+        Reading::Refused(refusal, field) => {
+            let answer = Answer::Refused(refusal);
+            print(answer, field, &[], &[], &[], &[], &[], out)
+        }
         Reading::Sheet(counts) => {
             print_read(counts, &wanted, &weight, &left, &right, &distance, out)
         }

@@ -9,6 +9,7 @@ use lib.Dec.{eqb}
 use lib.ListN.{length, drop}
 use Rattle.ground.specs.declared.Answer.the-variants.{Placed}
 use Rattle.ground.specs.Limits.{labelsMost, gapsMost}
+use Rattle.text_rows.specs.Taking.{noField}
 use Rattle.text_listing.specs.declared.Listed.the-variants.{Written}
 use Rattle.text_listing.specs.Listing.{Listable, Within, labelsIn, gapsIn, even, listedAs, notListed, laid, listedIn, sheetRecords}
 
@@ -23,21 +24,21 @@ laid-whole text b h = rw (le-leb (length text) (length b) h)
 -- ---- a placed sheet, by its checks
 
 module _ (l : Listable) (b : List ℕ) where
-  pub listed-crowded : labelsMost < labelsIn l → notListed 1 b ≡ listedIn Placed l b
+  pub listed-crowded : labelsMost < labelsIn l → notListed 1 b ≡ listedIn Placed noField l b
   unfolding listedIn
   listed-crowded h = rw (lt-ltb labelsMost (labelsIn l) h)
 
   module _ (few : labelsIn l ≤ labelsMost) where
-    pub listed-overfull : gapsMost < gapsIn l → notListed 2 b ≡ listedIn Placed l b
+    pub listed-overfull : gapsMost < gapsIn l → notListed 2 b ≡ listedIn Placed noField l b
     unfolding listedIn
     listed-overfull h = rw (le-ltb labelsMost (labelsIn l) few, lt-ltb gapsMost (gapsIn l) h)
 
     module _ (within : gapsIn l ≤ gapsMost) where
-      pub listed-ragged : even l ≡ false → notListed 3 b ≡ listedIn Placed l b
+      pub listed-ragged : even l ≡ false → notListed 3 b ≡ listedIn Placed noField l b
       unfolding listedIn
       listed-ragged e = rw (le-ltb labelsMost (labelsIn l) few, le-ltb gapsMost (gapsIn l) within, e)
 
-      pub listed-laid : even l ≡ true → laid (sheetRecords l) b ≡ listedIn Placed l b
+      pub listed-laid : even l ≡ true → laid (sheetRecords l) b ≡ listedIn Placed noField l b
       unfolding listedIn
       listed-laid e = rw (le-ltb labelsMost (labelsIn l) few, le-ltb gapsMost (gapsIn l) within, e)
 

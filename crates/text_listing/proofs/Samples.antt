@@ -12,7 +12,8 @@ use Rattle.exact.specs.Slack.{euclid, lowestOf}
 use Rattle.single_fractions.specs.Slack.{slackAnswer}
 use Rattle.text_rows.specs.Bytes.{bytes}
 use Rattle.text_rows.specs.Numeral.{digitsOf}
-use Rattle.text_listing.specs.Listing.{Listable, unitOf, placeRecord, placeRecords, printedSlack, slackRecord, slackRecords, refusedRecord, listing}
+use Rattle.text_rows.specs.Taking.{noField}
+use Rattle.text_listing.specs.Listing.{Listable, unitOf, placeRecord, placeRecords, printedSlack, slackRecord, slackRecords, refusedRecord, shownField, listing}
 
 -- the records of the document's run
 abbrev pub first-record : List ℕ
@@ -34,7 +35,7 @@ run = record {
   distance = pos 6 ∷ [];
 }
 
-pub run-listed : listing Placed run ≡ first-record ++ second-record ++ slack-record
+pub run-listed : listing Placed noField run ≡ first-record ++ second-record ++ slack-record
 unfolding placeRecords placeRecord slackRecords slackRecord printedSlack slackAnswer lowestOf euclid digitsOf unitOf rounded roundHalfUp withinPlaces
 run-listed = refl
 
@@ -51,7 +52,7 @@ mixed-places = record {
 abbrev pub mixed-listing : List ℕ
 mixed-listing = bytes "place,0,-1,1,-1\r\nplace,1,21,1,21\r\nslack,0,0,1\r\n"
 
-pub mixed-listed : listing Placed mixed-places ≡ mixed-listing
+pub mixed-listed : listing Placed noField mixed-places ≡ mixed-listing
 unfolding placeRecords placeRecord slackRecords slackRecord printedSlack slackAnswer lowestOf euclid digitsOf unitOf rounded roundHalfUp withinPlaces
 mixed-listed = refl
 
@@ -68,7 +69,7 @@ crossing-places = record {
 abbrev pub crossing-listing : List ℕ
 crossing-listing = bytes "place,0,1,2,1\r\nplace,1,-1,2,0\r\nslack,0,0,1\r\n"
 
-pub crossing-listed : listing Placed crossing-places ≡ crossing-listing
+pub crossing-listed : listing Placed noField crossing-places ≡ crossing-listing
 unfolding placeRecords placeRecord slackRecords slackRecord printedSlack slackAnswer lowestOf euclid digitsOf unitOf rounded roundHalfUp withinPlaces
 crossing-listed = refl
 
@@ -83,7 +84,7 @@ pairs = record {
 }
 
 pub pairs-listed :
-    listing Placed pairs ≡ bytes "place,0,-8,3,-3\r\nplace,1,7,3,2\r\nplace,2,77,2,39\r\nplace,3,85,2,43\r\n"
+    listing Placed noField pairs ≡ bytes "place,0,-8,3,-3\r\nplace,1,7,3,2\r\nplace,2,77,2,39\r\nplace,3,85,2,43\r\n"
     ++ bytes "slack,0,0,1\r\nslack,1,0,1\r\nslack,2,37,6\r\n"
 unfolding placeRecords placeRecord slackRecords slackRecord printedSlack slackAnswer lowestOf euclid digitsOf unitOf rounded roundHalfUp withinPlaces
 pairs-listed = refl
@@ -93,11 +94,11 @@ abbrev pub none : Listable
 none = record { place-num = []; place-den = []; left = []; right = []; distance = [] }
 
 -- a ring is refused with 9
-pub ring-listed : listing (Refused (record { number = 9; place = 0; ring = 2 })) none ≡ bytes "refused,9,0\r\n"
-unfolding refusedRecord digitsOf
+pub ring-listed : listing (Refused (record { number = 9; place = 0; ring = 2 })) noField none ≡ bytes "refused,9,0,0\r\n"
+unfolding refusedRecord shownField digitsOf
 ring-listed = refl
 
 -- "a sheet of no labels .. prints nothing"
-pub none-listed : listing Placed none ≡ []
+pub none-listed : listing Placed noField none ≡ []
 unfolding placeRecords slackRecords
 none-listed = refl

@@ -23,8 +23,9 @@ use Rattle.ground.specs.Entries.{int}
 use Rattle.ground.specs.Limits.{labelsMost, gapsMost, placeNumMost}
 use Rattle.text_rows.specs.Numeral.{decimal, signedDecimal}
 use Rattle.text_listing.specs.Listing.{placeRoom, slackRoom, refusedRoom, listingRoom, unitAt, unitOf, placeRecord, placeRecords, refusedRecord, listing}
-use Rattle.text_listing.specs.Listing.{Listable, Within, labelsIn, gapsIn, printedSlack, printedUnit, slackRecord, slackRecords, sheetRecords}
+use Rattle.text_listing.specs.Listing.{Listable, Within, labelsIn, gapsIn, printedSlack, printedUnit, shownField, slackRecord, slackRecords, sheetRecords}
 use Rattle.text_rows.proofs.Decimal.{length-decimal, length-signed, length-signed-64}
+use Rattle.text_listing.proofs.ShownField.{shown-most}
 use Rattle.text_listing.proofs.SlackSize.{FractionFits, printed-fits}
 
 -- ---- the whole unit
@@ -99,11 +100,17 @@ length-slack-records (suc n) l h =
       length-slack-record n (printedSlack l n) (omega arith) (printed-fits l n),
     )
 
+-- the field that is shown is of 64 bits, as the one told is
+pub length-field : (number field : ℕ) → Fits w64 field → length (decimal (shownField number field)) ≤ 20
+length-field number field f = length-decimal-64 (shownField number field) (record { fits = omega (arith, shown-most number field, f .fits) })
+
 pub length-refused-record :
-    (r : Refusal) → Fits w64 (r .number) → Fits w64 (r .place) → length (refusedRecord r) ≤ refusedRoom
+    (r : Refusal) (field : ℕ) → Fits w64 (r .number) → Fits w64 (r .place) → Fits w64 field
+    → length (refusedRecord r field) ≤ refusedRoom
 unfolding refusedRecord
-length-refused-record r fn fp =
-    simp length-append (omega (arith, length-decimal-64 (r .number) fn, length-decimal-64 (r .place) fp))
+length-refused-record r field fn fp ff =
+    simp length-append
+    (omega (arith, length-decimal-64 (r .number) fn, length-decimal-64 (r .place) fp, length-field (r .number) field ff))
 
 -- ---- the largest listing
 
@@ -120,13 +127,13 @@ length-sheet-records l h g fn fd =
     )
 
 -- the numbers of an answer are of 64 bits
-abbrev pub AnswerFits : Answer → Type 0
-AnswerFits answer.Placed = Unit
-AnswerFits (answer.Refused r) = Fits w64 (r .number) × Fits w64 (r .place)
+abbrev pub AnswerFits : Answer → (field : ℕ) → Type 0
+AnswerFits answer.Placed field = Unit
+AnswerFits (answer.Refused r) field = Fits w64 (r .number) × Fits w64 (r .place) × Fits w64 field
 
 -- no listing is longer than its room
 pub length-listing :
-    (a : Answer) (l : Listable) → Within l → AnswerFits a → AllFit (l .place-num) → AllFit (l .place-den) → length
-    (listing a l) ≤ listingRoom
-length-listing answer.Placed l w f fn fd = omega (arith, length-sheet-records l (w .labels) (w .gaps) fn fd)
-length-listing (answer.Refused r) l w f fn fd = omega (arith, length-refused-record r (f .0) (f .1))
+    (a : Answer) (field : ℕ) (l : Listable) → Within l → AnswerFits a field → AllFit (l .place-num) → AllFit (l .place-den)
+    → length (listing a field l) ≤ listingRoom
+length-listing answer.Placed field l w f fn fd = omega (arith, length-sheet-records l (w .labels) (w .gaps) fn fd)
+length-listing (answer.Refused r) field l w f fn fd = omega (arith, length-refused-record r field (f .0) (f .1) (f .2))

@@ -1,4 +1,4 @@
--- Listings that a wrong writer would print otherwise (document 01, "Sheet text"; document 02, Items 1 and 4).
+-- Listings that a wrong writer would print otherwise (document 01, "Sheet text"; document 02, Items 1, 4 and 5).
 use mathlib.Core.Path.{_≡_, refl, ap}
 use mathlib.Core.Logic.{_≢_}
 use mathlib.Core.List.{List, [], _∷_, _++_}
@@ -7,6 +7,7 @@ use native.Mathlib.Omega.{arith}
 use lib.ListN.{length, getD, replicate}
 use lib.IntN.{ℤ, pos, negsuc, natAbs}
 use Rattle.ground.specs.declared.Answer.the-variants.{Placed}
+use Rattle.ground.specs.declared.Refusal.{Refusal}
 use Rattle.exact.specs.declared.Fraction.{Fraction}
 use Rattle.exact.specs.Fraction.{whole}
 use Rattle.single_fractions.specs.Places.{withinPlaces}
@@ -16,8 +17,9 @@ use Rattle.exact.specs.Slack.{euclid, lowestOf}
 use Rattle.single_fractions.specs.Slack.{slackAnswer}
 use Rattle.text_rows.specs.Bytes.{bytes}
 use Rattle.text_rows.specs.Numeral.{digitsOf}
+use Rattle.text_rows.specs.Taking.{noField}
 use Rattle.text_listing.specs.declared.Listed.the-variants.{Written}
-use Rattle.text_listing.specs.Listing.{unitOf, placeRecord, placeRecords, printedSlack, slackRecord, slackRecords}
+use Rattle.text_listing.specs.Listing.{unitOf, placeRecord, placeRecords, printedSlack, refusedRecord, shownField, slackRecord, slackRecords}
 use Rattle.text_listing.specs.Listing.{Listable, listing, listedAs, notListed, listedIn}
 use Rattle.text_listing.proofs.Samples.{first-record, second-record, slack-record, run}
 
@@ -59,12 +61,12 @@ unit-past = refl
 -- ---- the slacks
 
 -- they do not stand in front of the places
-pub slacks-first : listing Placed run ≢ slack-record ++ first-record ++ second-record
+pub slacks-first : listing Placed noField run ≢ slack-record ++ first-record ++ second-record
 unfolding placeRecords placeRecord slackRecords slackRecord printedSlack slackAnswer lowestOf euclid digitsOf unitOf rounded roundHalfUp withinPlaces
 slacks-first = differ 0 (λ e. omega arith)
 
 -- no gap is left out
-pub gap-missed : listing Placed run ≢ first-record ++ second-record
+pub gap-missed : listing Placed noField run ≢ first-record ++ second-record
 unfolding placeRecords placeRecord slackRecords slackRecord printedSlack slackAnswer lowestOf euclid digitsOf unitOf rounded roundHalfUp withinPlaces
 gap-missed = longer (λ e. omega arith)
 
@@ -107,6 +109,46 @@ pub denominator-past : printedSlack (over (pos 1 ∷ pos 3 ∷ []) (pos 4801 ∷
 unfolding printedSlack slackAnswer withinPlaces
 denominator-past = refl
 
+-- ---- the refused record
+
+-- the refusal of a bad number in the fourth field of line 31, and of a ring of two gaps
+abbrev slip : Refusal
+slip = record { number = 14; place = 31; ring = 0 }
+
+abbrev ring : Refusal
+ring = record { number = 9; place = 0; ring = 2 }
+
+pub slip-listed : refusedRecord slip 4 ≡ bytes "refused,14,31,4\r\n"
+unfolding refusedRecord shownField digitsOf
+slip-listed = refl
+
+-- there are four fields, as of a bad field, so without one
+pub three-fields : refusedRecord slip 4 ≢ bytes "refused,14,31\r\n"
+unfolding refusedRecord shownField digitsOf
+three-fields = longer (λ e. omega arith)
+
+pub ring-three-fields : refusedRecord ring noField ≢ bytes "refused,9,0\r\n"
+unfolding refusedRecord shownField digitsOf
+ring-three-fields = longer (λ e. omega arith)
+
+-- no number but 13 to 15 shows a field: a ring's length that is told for one is not printed
+pub length-for-field : refusedRecord ring 2 ≡ bytes "refused,9,0,0\r\n"
+unfolding refusedRecord shownField digitsOf
+length-for-field = refl
+
+pub count-field : refusedRecord (record { number = 10; place = 31; ring = 0 }) 4 ≡ bytes "refused,10,31,0\r\n"
+unfolding refusedRecord shownField digitsOf
+count-field = refl
+
+-- 13 and 15 do
+pub kind-field : refusedRecord (record { number = 13; place = 50; ring = 0 }) 1 ≡ bytes "refused,13,50,1\r\n"
+unfolding refusedRecord shownField digitsOf
+kind-field = refl
+
+pub turn-field : refusedRecord (record { number = 15; place = 2; ring = 0 }) 2 ≡ bytes "refused,15,2,2\r\n"
+unfolding refusedRecord shownField digitsOf
+turn-field = refl
+
 -- ---- what is refused
 
 -- one label, and a gap from it to itself
@@ -114,12 +156,12 @@ abbrev one : Listable
 one = record { place-num = pos 9 ∷ []; place-den = pos 2 ∷ []; left = 0 ∷ []; right = 0 ∷ []; distance = pos 0 ∷ [] }
 
 -- a buffer of the listing's length is written
-pub long-enough : listedIn Placed one (replicate 28 0) ≡ listedAs (Written 28) (bytes "place,0,9,2,5\r\nslack,0,0,1\r\n")
+pub long-enough : listedIn Placed noField one (replicate 28 0) ≡ listedAs (Written 28) (bytes "place,0,9,2,5\r\nslack,0,0,1\r\n")
 unfolding listedIn placeRecords placeRecord slackRecords slackRecord printedSlack slackAnswer lowestOf euclid digitsOf unitOf rounded roundHalfUp withinPlaces
 long-enough = refl
 
 -- a buffer one byte short is refused with 4 and stays
-pub one-byte-short : listedIn Placed one (replicate 27 0) ≡ notListed 4 (replicate 27 0)
+pub one-byte-short : listedIn Placed noField one (replicate 27 0) ≡ notListed 4 (replicate 27 0)
 unfolding listedIn placeRecords placeRecord slackRecords slackRecord printedSlack slackAnswer lowestOf euclid digitsOf unitOf rounded roundHalfUp withinPlaces
 one-byte-short = refl
 
@@ -134,19 +176,19 @@ zeros labels gaps right distance = record {
 }
 
 -- 193 gaps are refused with 2, but after 49 labels with 1; the buffer stays
-pub too-many-gaps : listedIn Placed (zeros 1 193 193 193) (replicate 3 7) ≡ notListed 2 (replicate 3 7)
+pub too-many-gaps : listedIn Placed noField (zeros 1 193 193 193) (replicate 3 7) ≡ notListed 2 (replicate 3 7)
 unfolding listedIn
 too-many-gaps = refl
 
-pub labels-first : listedIn Placed (zeros 49 193 193 193) (replicate 3 7) ≡ notListed 1 (replicate 3 7)
+pub labels-first : listedIn Placed noField (zeros 49 193 193 193) (replicate 3 7) ≡ notListed 1 (replicate 3 7)
 unfolding listedIn
 labels-first = refl
 
 -- right labels or distances that are not as many as the left labels are refused with 3
-pub right-short : listedIn Placed (zeros 1 2 1 2) (replicate 3 7) ≡ notListed 3 (replicate 3 7)
+pub right-short : listedIn Placed noField (zeros 1 2 1 2) (replicate 3 7) ≡ notListed 3 (replicate 3 7)
 unfolding listedIn
 right-short = refl
 
-pub distance-long : listedIn Placed (zeros 1 2 2 3) (replicate 3 7) ≡ notListed 3 (replicate 3 7)
+pub distance-long : listedIn Placed noField (zeros 1 2 2 3) (replicate 3 7) ≡ notListed 3 (replicate 3 7)
 unfolding listedIn
 distance-long = refl

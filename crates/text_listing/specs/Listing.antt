@@ -1,6 +1,6 @@
 -- The listing (document 01, "Sheet text"): "the word place, label number, numerator, denominator, whole unit", and
 -- "after the places, one record per gap in number order: the word slack, gap number, numerator, denominator" (document
--- 02, Item 1); or "refused, number, place"; every record ended by CRLF.
+-- 02, Item 1); or "refused, number, place" and the bad field (Item 5); every record ended by CRLF.
 use Prim.Native.Nat.{ℕ, zero, suc, _≤_}
 use mathlib.Core.Path.{_≡_}
 use mathlib.Core.Bool.{Bool, cond, _&&_}
@@ -20,8 +20,9 @@ use Rattle.ground.specs.declared.Answer.the-variants.{Placed, Refused}
 use Rattle.text_listing.specs.declared.Listed.{Listed}
 use Rattle.text_listing.specs.declared.Listed.the-variants as listed
 use Rattle.text_rows.specs.Bytes.{bytes}
-use Rattle.text_rows.specs.Lines.{next, recordEnd}
+use Rattle.text_rows.specs.Lines.{next, recordEnd, recordOf}
 use Rattle.text_rows.specs.Numeral.{decimal, signedDecimal}
+use Rattle.text_rows.specs.Taking.{noField}
 use Rattle.ground.specs.Answers.{refusedAt}
 use Rattle.ground.specs.Entries.{nat, int}
 use Rattle.ground.specs.Limits.{labelsMost, gapsMost}
@@ -60,7 +61,7 @@ abbrev pub slackRoom : ℕ
 slackRoom = 53
 
 abbrev pub refusedRoom : ℕ
-refusedRoom = 51
+refusedRoom = 72
 
 abbrev pub listingRoom : ℕ
 listingRoom = 24576
@@ -126,14 +127,18 @@ slackRecords (suc n) l = slackRecords n l ++ slackRecord n (printedSlack l n)
 abbrev pub sheetRecords : Listable → List ℕ
 sheetRecords l = placeRecords (labelsIn l) (l .place-num) (l .place-den) (printedUnit l) ++ slackRecords (gapsIn l) l
 
--- "A refused sheet prints only: refused, number, place"
-unfoldable pub refusedRecord : Refusal → List ℕ
-refusedRecord r = refusedWord ++ (next (decimal (r .number)) ++ (next (decimal (r .place)) ++ recordEnd))
+-- "for 13 to 15 the bad field counted from 1, else 0" (document 02, Item 5), whatever is told with another number
+unfoldable pub shownField : (number field : ℕ) → ℕ
+shownField number field = cond (leb 13 number && leb number 15) field noField
 
--- the listing of an answer
-abbrev pub listing : Answer → Listable → List ℕ
-listing Placed l = sheetRecords l
-listing (Refused r) l = refusedRecord r
+-- "A refused sheet prints only: refused, number, place"; "The refused record gains a fourth field"
+unfoldable pub refusedRecord : Refusal → (field : ℕ) → List ℕ
+refusedRecord r field = recordOf refusedWord (decimal (r .number)) (decimal (r .place)) (decimal (shownField (r .number) field))
+
+-- the listing of an answer, and for a refused text of its field
+abbrev pub listing : Answer → (field : ℕ) → Listable → List ℕ
+listing Placed field l = sheetRecords l
+listing (Refused r) field l = refusedRecord r field
 
 -- document 01's number for each case of the writer's answer and its place, and the count of bytes written:
 -- number and place are 0 for a listing that is written, the count is 0 for one that is refused
@@ -186,9 +191,9 @@ pub record Within (l : Listable) : Type 0 where
   pub distance : length (l .distance) ≡ gapsIn l
 
 -- for a placed sheet 1 for too many labels, then 2 for too many gaps, then 3 for lists that are not as many; 4 for either
-unfoldable pub listedIn : Answer → Listable → List ℕ → Listing
-listedIn (Refused r) l b = laid (refusedRecord r) b
-listedIn Placed l b =
+unfoldable pub listedIn : Answer → (field : ℕ) → Listable → List ℕ → Listing
+listedIn (Refused r) field l b = laid (refusedRecord r field) b
+listedIn Placed field l b =
     cond (ltb labelsMost (labelsIn l)) (notListed 1 b)
     (cond (ltb gapsMost (gapsIn l)) (notListed 2 b)
     (cond (even l) (laid (sheetRecords l) b) (notListed 3 b)))

@@ -6,7 +6,7 @@ pub mod listing;
 mod slacks;
 
 // Bytes of a refused record, at most, and of a whole listing.
-pub const REFUSED_ROOM: usize = 51;
+pub const REFUSED_ROOM: usize = 72;
 
 pub const LISTING_ROOM: usize = 24576;
 

@@ -14,17 +14,24 @@ use ground::limits::GAPS;
 use ground::limits::LABELS;
 use single_fractions::Ties;
 use single_fractions::round::round;
+use text_rows::NO_FIELD;
 ghost use mathlib.Core.Path.{_≡_};
 ghost use Prim.Native.Nat.{_+_, _*_, _<_, _≤_};
 ghost use lib.ListN.{length};
 ghost use Rattle.ground.specs.declared.Answer.the-variants.{Placed};
 ghost use Rattle.text_listing.specs.Appended.{Appended};
 ghost use Rattle.text_rows.specs.Lines.{recordEnd};
+ghost use Rattle.text_rows.specs.Taking.{noField};
 ghost use Rattle.text_listing.specs.Listing.{placeRoom, refusedRoom, listingRoom, laid, listedAs, listedIn, refusal};
 ghost use Rattle.text_listing.specs.Listing.{Within, even, listableLent, listableNow};
-ghost use Rattle.text_listing.specs.Listing.{placeRecord, placeRecords, refusedRecord, sheetRecords, unitAt, unitOf};
+ghost use Rattle.text_listing.specs.Listing.{placeRecord, placeRecords, refusedRecord, sheetRecords, shownField, unitAt, unitOf};
 ghost use Rattle.ground.specs.Limits.{labelsMost};
 ghost use Rattle.ground.specs.Views.{after, before};
+
+// The refusals of a bad field: the first field, a number, a label's number out of turn.
+const BAD_FIELD_FIRST: usize = 13;
+
+const BAD_FIELD_LAST: usize = 15;
 
 // Puts the end of a record.
 pub(crate) fn put_end(buf: &mut [u8], at: usize) -> usize
@@ -76,15 +83,30 @@ fn put_places(buf: &mut [u8], place_num: &[i64], place_den: &[i64]) -> usize
     at
 }
 
-// Puts the record of a refused sheet.
-fn put_refused(buf: &mut [u8], refusal: Refusal) -> usize
-    requires { ⌜ refusedRoom ≤ length (now buf) ⌝ }
-    ensures { λ r. ⌜ Appended (before buf) 0 (refusedRecord refusal) (after buf) r ⌝ }
+// The field that a refused record shows: that of a bad field, and none with any other number.
+fn shown_field(number: usize, field: usize) -> usize
+    ensures { λ r. ⌜ r ≡ shownField number field ⌝ }
 {
+    if number < BAD_FIELD_FIRST {
+        return NO_FIELD;
+    }
+    if BAD_FIELD_LAST < number {
+        return NO_FIELD;
+    }
+    field
+}
+
+// Puts the record of a refused sheet.
+fn put_refused(buf: &mut [u8], refusal: Refusal, field: usize) -> usize
+    requires { ⌜ refusedRoom ≤ length (now buf) ⌝ }
+    ensures { λ r. ⌜ Appended (before buf) 0 (refusedRecord refusal field) (after buf) r ⌝ }
+{
+    let shown = shown_field(refusal.number, field);
     let word = put_word(buf, 0, b"refused");
     let first = put_number_field(buf, word, refusal.number as u64);
     let second = put_number_field(buf, first, refusal.place as u64);
-    put_end(buf, second)
+    let third = put_number_field(buf, second, shown as u64);
+    put_end(buf, third)
 }
 
 // A refusal of the listing, whose place is 0.
@@ -160,7 +182,7 @@ fn list_sheet(
 ) -> Listed
     ensures { λ r.
         let l = listableLent «place_num» «place_den» left right distance in
-        ⌜ listedAs r (after out) ≡ listedIn Placed l (before out) ⌝ }
+        ⌜ listedAs r (after out) ≡ listedIn Placed noField l (before out) ⌝ }
 {
     if LABELS < place_num.len() {
         return refused(1);
@@ -177,19 +199,20 @@ fn list_sheet(
 }
 
 // The listing of a refused sheet.
-fn list_refused(refusal: Refusal, out: &mut [u8]) -> Listed
-    ensures { λ r. ⌜ listedAs r (after out) ≡ laid (refusedRecord refusal) (before out) ⌝ }
+fn list_refused(refusal: Refusal, field: usize, out: &mut [u8]) -> Listed
+    ensures { λ r. ⌜ listedAs r (after out) ≡ laid (refusedRecord refusal field) (before out) ⌝ }
 {
     let mut text = [0u8; REFUSED_ROOM];
-    let end = put_refused(&mut text, refusal);
+    let end = put_refused(&mut text, refusal, field);
     lay(&text[..end], out)
 }
 
-// Writes the listing of an answer to the front of the buffer.
+// Writes the listing of an answer to the front of the buffer; the field is that of a refused text.
 // For a placed sheet 1: more than 48 labels. 2: more than 192 gaps. 3: lists that belong together differ in length.
 // For any answer 4: the buffer is too short.
 pub fn write_listing(
     answer: Answer,
+    field: usize,
     place_num: &[i64],
     place_den: &[i64],
     left: &[usize],
@@ -199,11 +222,11 @@ pub fn write_listing(
 ) -> Listed
     ensures { λ r.
         let l = listableLent «place_num» «place_den» left right distance in
-        ⌜ (r ≡ listedIn answer l (before out) .answer)
-        × (after out ≡ listedIn answer l (before out) .buffer) ⌝ }
+        ⌜ (r ≡ listedIn answer field l (before out) .answer)
+        × (after out ≡ listedIn answer field l (before out) .buffer) ⌝ }
 {
     match answer {
         Answer::Placed => list_sheet(place_num, place_den, left, right, distance, out),
-        Answer::Refused(refusal) => list_refused(refusal, out),
+        Answer::Refused(refusal) => list_refused(refusal, field, out),
     }
 }

@@ -18,7 +18,7 @@ use Rattle.text_rows.specs.declared.LabelRow.{LabelRow}
 use Rattle.text_reading.specs.declared.Reading.the-variants.{Sheet}
 use Rattle.text_rows.specs.Lines.{lines}
 use Rattle.text_rows.specs.Numeral.{digitsMost}
-use Rattle.text_reading.specs.Texts.{textMost, Typed, nothingTyped, sheet, readFrom, outcome, Lists, filled, roomFor, countsOf, reading}
+use Rattle.text_reading.specs.Texts.{textMost, Typed, nothingTyped, earlierOf, sheet, readFrom, outcome, Lists, filled, roomFor, countsOf, reading}
 use Rattle.text_reading.specs.Printed.{labelRecord, gapRecord, labelRecords, gapRecords, printed, noLabel, InLimits}
 use Rattle.text_reading.proofs.Numerals.{each-at}
 use Rattle.text_reading.proofs.Records.{LabelFits, GapFits, lines-label, lines-gap, taken-label, taken-gap, label-most, gap-most}
@@ -56,7 +56,7 @@ pub read-gaps :
 unfolding gapRecords readFrom lines
 read-gaps [] fits n t = rw (append-nil (t .gaps))
 read-gaps (g ∷ gs) fits n t =
-    rw (lines-gap g (gapRecords gs), taken-gap (length (t .labels)) g (fits .0))
+    rw (lines-gap g (gapRecords gs), taken-gap (earlierOf t) g (fits .0))
     (read-gaps gs (fits .1) (suc n) (record { labels = t .labels; gaps = t .gaps ++ (g ∷ []) }) ∙ rw append-snoc)
 
 -- ---- the length of the text

@@ -22,7 +22,7 @@ use Rattle.text_reading.specs.declared.Reading.the-variants.{Sheet, Refu
 use Rattle.text_rows.specs.declared.lines.Cursor.{Cursor}
 use Rattle.text_rows.specs.declared.lines.Line.{Line}
 use Rattle.text_rows.specs.Lines.{lines}
-use Rattle.text_rows.specs.Taking.{taken}
+use Rattle.text_rows.specs.Taking.{badField, badNumber, noField, taken}
 use Rattle.text_reading.specs.Texts.{Typed, nothingTyped, add, Outcome, bad-line, sheet, follow, readFrom, outcome}
 use Rattle.text_reading.specs.Texts.{textMost, Lists, countsOf, front, filled, roomFor, refusedWith, settled, judged, reading}
 use Rattle.text_rows.specs.LineAt.{LineAt}
@@ -68,7 +68,7 @@ gaps-counted (Gap g) c = omega arith
 
 -- the line at a position, after this many labels
 abbrev pub rowAt : List ℕ → ℕ → ℕ → Counts → Taken
-rowAt text at end c = taken (c .labels) (take (end - at) (drop at text))
+rowAt text at end c = taken (record { labels = c .labels }) (take (end - at) (drop at text))
 
 module _ {text : List ℕ} {from : Cursor} {c : Counts} {w : Lists} {l : Line} (p : Reached text from c w) (f : LineAt text from l) where
   -- what the line decides
@@ -80,13 +80,17 @@ module _ {text : List ℕ} {from : Cursor} {c : Counts} {w : Lists} {l : Line} (
       p .same ∙ (ap (λ (ls : List (List ℕ)). readFrom ls (from .line) (p .typed)) (f .parted)
       ∙ ap (λ (r : Taken). follow r (from .line) (p .typed)
       (readFrom (lines (drop (l .next .at) text)) (suc (from .line))))
-      (ap (λ (n : ℕ). taken n (take (l .end - from .at) (drop (from .at) text)))
+      (ap (λ (n : ℕ). taken (record { labels = n }) (take (l .end - from .at) (drop (from .at) text)))
       (sym (ap (λ (x : Counts). x .labels) (p .counts))) ∙ e))
 
+  -- a line that is not taken: its number and its field are told with its line
   pub reached-bad :
-      (r : Reading) → rowAt text (from .at) (l .end) c ≡ Bad → r ≡ refusal 10 (from .line) → ScannedBy (outcome text)
-      r w
-  reached-bad r e q = subst (λ (o : Outcome). ScannedBy o r w) (sym (followed Bad e)) q
+      (k : Taken) {number field n f : ℕ} → k ≡ rowAt text (from .at) (l .end) c → k ≡ Bad number field
+      → n ≡ badNumber k → f ≡ badField k → (r : Reading) → r ≡ refusal n (from .line) f → ScannedBy (outcome text) r w
+  reached-bad k {number} {field} e bad is-n is-f r q =
+      let told : r ≡ refusal number (from .line) field =
+      q ∙ λ i. refusal ((is-n ∙ ap badNumber bad) i) (from .line) ((is-f ∙ ap badField bad) i) in
+      subst (λ (o : Outcome). ScannedBy o r w) (sym (followed (Bad number field) (sym e ∙ bad))) told
 
   pub reached-turn :
       (row : Row) {c′ : Counts} {w′ : Lists} → rowAt text (from .at) (l .end) c ≡ Good row → Stored row c w c′ w′
@@ -147,12 +151,12 @@ handed t w b h =
       split :
           (p : Bool) → ltb labelsMost (length (t .labels)) ≡ p → (q : Bool) → ltb gapsMost (length (t .gaps)) ≡ q
           → (r : Bool) →
-          answered (cond p (refusal 1 0) (cond q (refusal 2 0) (cond r (Sheet (countsOf t)) (refusal 4 0)))) w b
-          ≡ cond p (refusedWith 1 0 b) (cond q (refusedWith 2 0 b) (cond r (record {
+          answered (cond p (refusal 1 0 noField) (cond q (refusal 2 0 noField) (cond r (Sheet (countsOf t)) (refusal 4 0 noField)))) w b
+          ≡ cond p (refusedWith 1 0 noField b) (cond q (refusedWith 2 0 noField b) (cond r (record {
             answer =
                 Sheet (countsOf t);
             lists = filled t b;
-          }) (refusedWith 4 0 b)))
+          }) (refusedWith 4 0 noField b)))
       split true e q g r = refl
       split false e true g r = refl
       split false e false g false = refl
@@ -162,7 +166,7 @@ handed t w b h =
 
 -- 11 before everything
 pub long-text :
-    (text : List ℕ) (b : Lists) (r : Reading) → textMost < length text → r ≡ refusal 11 0 → ReadInto text b r b
+    (text : List ℕ) (b : Lists) (r : Reading) → textMost < length text → r ≡ refusal 11 0 noField → ReadInto text b r b
 unfolding reading
 long-text text b r h e = rw (e, lt-ltb textMost (length text) h)
 
@@ -172,20 +176,20 @@ short-text text b h = rw (le-ltb textMost (length text) h)
 
 -- a bad line leaves the lists
 bad-read :
-    (o : Outcome) (found : Reading) (w b : Lists) (r : Refusal) → ScannedBy o found w → found ≡ Refused r
+    (o : Outcome) (found : Reading) (w b : Lists) (r : Refusal) (f : ℕ) → ScannedBy o found w → found ≡ Refused r f
     → record { answer = found; lists = b } ≡ judged o b
-bad-read (bad-line n) found w b r s e = ap (λ (x : Reading). record { answer = x; lists = b }) s
-bad-read (sheet t) found w b r s e = let z : _≡_ {A = ℕ} 0 1 = cc (s .0) in absurd (omega arith)
+bad-read (bad-line n number field) found w b r f s e = ap (λ (x : Reading). record { answer = x; lists = b }) s
+bad-read (sheet t) found w b r f s e = let z : _≡_ {A = ℕ} 0 1 = cc (s .0) in absurd (omega arith)
 
 sheet-read :
     (o : Outcome) (found : Reading) (w b : Lists) (c : Counts) → ScannedBy o found w → found ≡ Sheet c → answered
     (judgedBy c (roomOf b)) w b ≡ judged o b
-sheet-read (bad-line n) found w b c s e = let z : _≡_ {A = ℕ} 0 1 = cc in absurd (omega arith)
+sheet-read (bad-line n number field) found w b c s e = let z : _≡_ {A = ℕ} 0 1 = cc in absurd (omega arith)
 sheet-read (sheet t) found w b c s e = let q : c ≡ countsOf t = cc (s .0) in rw q (handed t w b (s .1))
 
 module _ (text : List ℕ) (found : Reading) (w b : Lists) (h : length text ≤ textMost) (s : ScannedBy (outcome text) found w) where
-  pub read-bad : (r : Refusal) → found ≡ Refused r → ReadInto text b found b
-  read-bad r e = bad-read (outcome text) found w b r s e ∙ sym (short-text text b h)
+  pub read-bad : (r : Refusal) (f : ℕ) → found ≡ Refused r f → ReadInto text b found b
+  read-bad r f e = bad-read (outcome text) found w b r f s e ∙ sym (short-text text b h)
 
   pub read-sheet :
       (c : Counts) (r : Reading) (after : Lists) → found ≡ Sheet c → HandedOver c w b r after → ReadInto text b r
@@ -229,8 +233,8 @@ five true true false s t h = absurd (true≢false (sym h))
 five true false r s t h = absurd (true≢false (sym h))
 five false q r s t h = absurd (true≢false (sym h))
 
-never-sheet : (x : Refusal) (n : Counts) → Refused x ≡ Sheet n → ⊥
-never-sheet x n h = let z : _≡_ {A = ℕ} 0 1 = cc in omega arith
+never-sheet : (x : Refusal) (f : ℕ) (n : Counts) → Refused x f ≡ Sheet n → ⊥
+never-sheet x f n h = let z : _≡_ {A = ℕ} 0 1 = cc in omega arith
 
 -- the answer is a sheet only if the counts pass
 fitting-counts : (c : Counts) (b : Lists) (n : Counts) → judgedBy c (roomOf b) ≡ Sheet n → Fitting n b
@@ -239,11 +243,11 @@ fitting-counts c b n =
     split (ltb labelsMost (c .labels)) refl (ltb gapsMost (c .gaps)) refl (roomy c (roomOf b)) refl where
       split :
           (p : Bool) → ltb labelsMost (c .labels) ≡ p → (q : Bool) → ltb gapsMost (c .gaps) ≡ q → (r : Bool) → roomy c
-          (roomOf b) ≡ r → cond p (refusal 1 0) (cond q (refusal 2 0) (cond r (Sheet c) (refusal 4 0))) ≡ Sheet n
+          (roomOf b) ≡ r → cond p (refusal 1 0 noField) (cond q (refusal 2 0 noField) (cond r (Sheet c) (refusal 4 0 noField))) ≡ Sheet n
           → Fitting n b
-      split true e q g r f h = absurd (never-sheet _ n h)
-      split false e true g r f h = absurd (never-sheet _ n h)
-      split false e false g false f h = absurd (never-sheet _ n h)
+      split true e q g r f h = absurd (never-sheet _ _ n h)
+      split false e true g r f h = absurd (never-sheet _ _ n h)
+      split false e false g false f h = absurd (never-sheet _ _ n h)
       split false e false g true f h =
           let k : n ≡ c = cc in
           let a = five (leb (c .labels) (length (b .wanted))) (leb (c .labels) (length (b .weight)))
@@ -261,8 +265,8 @@ fitting-counts c b n =
           })
 
 module _ (c : Counts) (b : Lists) (r : Reading) (j : r ≡ judgedBy c (roomOf b)) where
-  pub handed-refused : (w : Lists) (x : Refusal) → r ≡ Refused x → HandedOver c w b r b
-  handed-refused w x e = rw (← j, e)
+  pub handed-refused : (w : Lists) (x : Refusal) (f : ℕ) → r ≡ Refused x f → HandedOver c w b r b
+  handed-refused w x f e = rw (← j, e)
 
   pub handed-sheet :
       (w after : Lists) (n : Counts) → r ≡ Sheet n → after ≡ overAll n w b → HandedOver c w b (Sheet n) after
@@ -274,5 +278,5 @@ module _ (c : Counts) (b : Lists) (r : Reading) (j : r ≡ judgedBy c (roomOf b)
 -- the work arrays of a text without a bad line keep their sizes
 pub scanned-sizes :
     (o : Outcome) (found : Reading) (w : Lists) (c : Counts) → ScannedBy o found w → found ≡ Sheet c → WorkArrays w
-scanned-sizes (bad-line n) found w c s e = absurd (never-sheet _ c (sym s ∙ e))
+scanned-sizes (bad-line n number field) found w c s e = absurd (never-sheet _ _ c (sym s ∙ e))
 scanned-sizes (sheet t) found w c s e = sizes-held t w (s .1)

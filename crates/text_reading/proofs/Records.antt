@@ -9,6 +9,7 @@ use lib.IntN.{ℤ, pos, natAbs}
 use lib.Signed.{_≤ℤ_}
 use borrow.Author.Tests.{eq-eqb, ne-eqb}
 use Rattle.ground.specs.declared.GapRecord.{GapRecord}
+use Rattle.text_rows.specs.declared.Earlier.{Earlier}
 use Rattle.text_rows.specs.declared.LabelRow.{LabelRow}
 use Rattle.text_rows.specs.declared.Row.the-variants.{Label, Gap}
 use Rattle.text_rows.specs.declared.Taken.the-variants.{Good}
@@ -144,7 +145,7 @@ lines-gap g rest = lines-record (gap-fields g) rest
 
 -- the record of the next label is taken as that label
 pub taken-label :
-    (i : ℕ) (r : LabelRow) → i < 10 ^ digitsMost → LabelFits r → taken i (labelLine i r) ≡ Good (Label r)
+    (i : ℕ) (r : LabelRow) → i < 10 ^ digitsMost → LabelFits r → taken (record { labels = i }) (labelLine i r) ≡ Good (Label r)
 unfolding rowOf same
 taken-label i r h f =
     rw (
@@ -156,10 +157,10 @@ taken-label i r h f =
       eq-eqb i i refl,
     )
 
--- a gap's record is taken as that gap, after any labels
-pub taken-gap : (labels : ℕ) (g : GapRecord) → GapFits g → taken labels (gapLine g) ≡ Good (Gap g)
+-- a gap's record is taken as that gap, whatever came before
+pub taken-gap : (earlier : Earlier) (g : GapRecord) → GapFits g → taken earlier (gapLine g) ≡ Good (Gap g)
 unfolding rowOf same
-taken-gap labels g f =
+taken-gap earlier g f =
     rw (
       line-fields (gap-fields g),
       number-back (g .left) (f .left),

@@ -1,6 +1,7 @@
--- Texts that a wrong reader would answer otherwise (document 01, "Sheet text" and "Refusal table"; document 02, Item 3).
-use Prim.Native.Nat.{ℕ, suc}
-use mathlib.Core.Path.{_≡_, refl, sym}
+-- Texts that a wrong reader would answer otherwise (document 01, "Sheet text" and "Refusal table"; document 02,
+-- Items 3 and 5).
+use Prim.Native.Nat.{ℕ, suc, _≤_}
+use mathlib.Core.Path.{_≡_, refl, sym, ap, _∙_}
 use mathlib.Core.List.{List, [], _∷_}
 use native.Mathlib.Omega.{arith}
 use lib.ListN.{length, replicate}
@@ -8,19 +9,34 @@ use lib.IntN.{pos}
 use Rattle.text_rows.specs.Bytes.{bytes}
 use Rattle.text_rows.specs.Lines.{lines, fields}
 use Rattle.text_rows.specs.Numeral.{allDigits, valueOf, number, signed, weightOf}
-use Rattle.text_rows.specs.Taking.{same, rowOf}
-use Rattle.text_reading.specs.Texts.{textMost, Typed, bad-line, sheet, readFrom, outcome, Lists, roomFor, refusedWith, judged, reading}
+use Rattle.text_rows.specs.Taking.{noField, same, rowOf}
+use Rattle.text_reading.specs.Texts.{textMost, Typed, Outcome, bad-line, sheet, readFrom, outcome, Lists, roomFor, refusedWith, judged, reading}
 use Rattle.text_reading.specs.Readings.{refusal}
 use Rattle.text_reading.proofs.Examples.{document-text}
 use Rattle.text_reading.proofs.ReadLaws.{long-text, short-text}
 
--- the line told is the first bad one, not the next
-pub bad-line-told : outcome (bytes "label,0,0,1\r\nlabel,0,0,1\r\nword\r\n") ≡ bad-line 2
+-- the line told is the first bad one, not the next, though 10 comes before 15 within a line
+pub bad-line-told : outcome (bytes "label,0,0,1\r\nlabel,5,0,1\r\nx\r\n") ≡ bad-line 2 15 2
 unfolding lines fields allDigits valueOf number signed weightOf same rowOf readFrom
 bad-line-told = refl
 
--- a CR at the end of the input belongs to its field
-pub lone-return : outcome (bytes "label,0,0,1\r\nlabel,1,3,1\r") ≡ bad-line 2
+-- a line in order after 49 labels, and one that is not: 13 comes before 1
+abbrev labels-49 : Typed
+labels-49 = record { labels = replicate 49 (record { wanted = pos 0; weight = pos 1 }); gaps = [] }
+
+pub crowded-later : readFrom (bytes "x,0,0,1" ∷ []) 50 labels-49 ≡ bad-line 50 13 1
+unfolding fields same rowOf readFrom
+crowded-later = refl
+
+-- a bad line is refused with its own number, line and field, whatever else is wrong: neither 1, 2 nor 4 comes before it, and
+-- a short text has no 11
+pub line-first :
+    (text : List ℕ) (b : Lists) (n number field : ℕ) → length text ≤ textMost → outcome text ≡ bad-line n number field
+    → reading text b ≡ refusedWith number n field b
+line-first text b n number field short bad = short-text text b short ∙ ap (λ (o : Outcome). judged o b) bad
+
+-- a CR at the end of the input belongs to its field, the fourth
+pub lone-return : outcome (bytes "label,0,0,1\r\nlabel,1,3,1\r") ≡ bad-line 2 14 4
 unfolding lines fields allDigits valueOf number signed weightOf same rowOf readFrom
 lone-return = refl
 
@@ -30,7 +46,7 @@ unfolding lines fields allDigits valueOf number signed weightOf same rowOf readF
 blank-before-crlf = refl
 
 -- a CR alone at the end of the input is no blank weight
-pub return-for-weight : outcome (bytes "label,0,0,\r") ≡ bad-line 1
+pub return-for-weight : outcome (bytes "label,0,0,\r") ≡ bad-line 1 14 4
 unfolding lines fields allDigits valueOf number signed weightOf same rowOf readFrom
 return-for-weight = refl
 
@@ -46,8 +62,8 @@ unfolding lines fields allDigits valueOf number signed weightOf same rowOf readF
 zero-typed = refl
 
 -- 16,385 bytes are refused with 11, whatever they are
-pub one-byte-more : (text : List ℕ) (b : Lists) → length text ≡ suc textMost → reading text b ≡ refusedWith 11 0 b
-one-byte-more text b e = sym (long-text text b (refusal 11 0) (omega arith) refl)
+pub one-byte-more : (text : List ℕ) (b : Lists) → length text ≡ suc textMost → reading text b ≡ refusedWith 11 0 noField b
+one-byte-more text b e = sym (long-text text b (refusal 11 0 noField) (omega arith) refl)
 
 -- 16,384 bytes are read
 pub no-byte-more : (text : List ℕ) (b : Lists) → length text ≡ textMost → reading text b ≡ judged (outcome text) b
@@ -64,6 +80,6 @@ rights n = record {
 }
 
 -- a list of right labels that is too short for the gaps is refused with 4
-pub short-right : reading document-text (rights 0) ≡ refusedWith 4 0 (rights 0)
+pub short-right : reading document-text (rights 0) ≡ refusedWith 4 0 noField (rights 0)
 unfolding lines fields allDigits valueOf number signed weightOf same rowOf readFrom roomFor reading
 short-right = refl

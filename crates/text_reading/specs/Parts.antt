@@ -7,6 +7,7 @@ use lib.Dec.{ltb, leb}
 use lib.ListN.{length, take, set}
 use Rattle.text_rows.specs.declared.Row.{Row}
 use Rattle.text_rows.specs.declared.Row.the-variants.{Label, Gap}
+use Rattle.text_rows.specs.Taking.{noField}
 use Rattle.text_reading.specs.declared.Counts.{Counts}
 use Rattle.text_reading.specs.declared.Reading.{Reading}
 use Rattle.text_reading.specs.declared.Reading.the-variants.{Sheet, Refused}
@@ -69,7 +70,7 @@ pub record Held (t : Typed) (w : Lists) : Type 0 where
 
 -- the answer of the loop over the lines
 abbrev pub ScannedBy : Outcome → Reading → Lists → Type 0
-ScannedBy (bad-line n) r w = r ≡ refusal 10 n
+ScannedBy (bad-line n number field) r w = r ≡ refusal number n field
 ScannedBy (sheet t) r w = (r ≡ Sheet (countsOf t)) × Held t w
 
 -- whether each lent list has an entry for every label or gap
@@ -84,9 +85,9 @@ roomy c room =
 -- 1, 2, then 4, by the counts
 unfoldable pub judgedBy : Counts → Room → Reading
 judgedBy c room =
-    cond (ltb labelsMost (c .labels)) (refusal 1 0)
-    (cond (ltb gapsMost (c .gaps)) (refusal 2 0)
-    (cond (roomy c room) (Sheet c) (refusal 4 0)))
+    cond (ltb labelsMost (c .labels)) (refusal 1 0 noField)
+    (cond (ltb gapsMost (c .gaps)) (refusal 2 0 noField)
+    (cond (roomy c room) (Sheet c) (refusal 4 0 noField)))
 
 -- how many entries each lent list has
 abbrev pub roomOf : Lists → Room
@@ -110,7 +111,7 @@ overAll c w b = record {
 
 -- an answer with the lists afterwards: a refusal leaves them
 abbrev pub answered : Reading → (work before : Lists) → Done
-answered (Refused r) w b = record { answer = Refused r; lists = b }
+answered (Refused r field) w b = record { answer = Refused r field; lists = b }
 answered (Sheet c) w b = record { answer = Sheet c; lists = overAll c w b }
 
 -- what is handed over: nothing where 1, 2 or 4 is met

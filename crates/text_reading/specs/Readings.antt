@@ -1,27 +1,33 @@
--- The answer of the reader: document 01's number and values for each of its cases.
+-- The answer of the reader: document 01's number and values for each of its cases, and document 02's field (Item 5).
 use Prim.Native.Nat.{ℕ}
 use Rattle.text_reading.specs.declared.Reading.{Reading}
 use Rattle.text_reading.specs.declared.Reading.the-variants.{Sheet, Refused}
+use Rattle.text_rows.specs.Taking.{noField}
 use Rattle.ground.specs.Answers.{refusedAt}
 
 -- its number and its place: each 0 for a sheet
 abbrev pub numberOf : Reading → ℕ
 numberOf (Sheet counts) = 0
-numberOf (Refused r) = r .number
+numberOf (Refused r field) = r .number
 
 abbrev pub refusedPlace : Reading → ℕ
 refusedPlace (Sheet counts) = 0
-refusedPlace (Refused r) = r .place
+refusedPlace (Refused r field) = r .place
 
 -- how many labels and gaps it read: none where it is refused
 abbrev pub labelsOf : Reading → ℕ
 labelsOf (Sheet counts) = counts .labels
-labelsOf (Refused r) = 0
+labelsOf (Refused r field) = 0
 
 abbrev pub gapsOf : Reading → ℕ
 gapsOf (Sheet counts) = counts .gaps
-gapsOf (Refused r) = 0
+gapsOf (Refused r field) = 0
 
--- the refusal of a number at a place; with a text there is no ring
-abbrev pub refusal : (number place : ℕ) → Reading
-refusal number place = Refused (refusedAt number place)
+-- "for 13 to 15 the bad field counted from 1, else 0"; it stands beside the refusal's number and place
+abbrev pub fieldOf : Reading → ℕ
+fieldOf (Sheet counts) = noField
+fieldOf (Refused r field) = field
+
+-- the refusal of a number at a place, with its field; with a text there is no ring
+abbrev pub refusal : (number place field : ℕ) → Reading
+refusal number place field = Refused (refusedAt number place) field

@@ -1,4 +1,4 @@
--- A text read into lent lists (document 01, "Sheet text" and "Refusal table").
+-- A text read into lent lists (document 01, "Sheet text" and "Refusal table"; document 02, Item 5).
 use Prim.Native.Nat.{ℕ, suc}
 use mathlib.Core.Bool.{Bool, cond, _&&_}
 use mathlib.Core.List.{List, [], _∷_, _++_, map}
@@ -9,6 +9,7 @@ use Rattle.ground.specs.declared.GapRecord.{GapRecord}
 use Rattle.text_rows.specs.declared.LabelRow.{LabelRow}
 use Rattle.text_rows.specs.declared.Row.{Row}
 use Rattle.text_rows.specs.declared.Row.the-variants.{Label, Gap}
+use Rattle.text_rows.specs.declared.Earlier.{Earlier}
 use Rattle.text_rows.specs.declared.Taken.{Taken}
 use Rattle.text_rows.specs.declared.Taken.the-variants.{Good, Bad}
 use Rattle.text_reading.specs.declared.Counts.{Counts}
@@ -16,7 +17,7 @@ use Rattle.text_reading.specs.declared.Reading.{Reading}
 use Rattle.text_reading.specs.declared.Reading.the-variants.{Sheet}
 use Rattle.text_reading.specs.Readings.{refusal}
 use Rattle.text_rows.specs.Lines.{lines}
-use Rattle.text_rows.specs.Taking.{taken}
+use Rattle.text_rows.specs.Taking.{noField, taken}
 use Rattle.ground.specs.Limits.{gapsMost, labelsMost}
 use denote.Triple.Both.{Both}
 use Rattle.ground.specs.Views.{Param}
@@ -35,19 +36,23 @@ abbrev pub add : Typed → Row → Typed
 add t (Label r) = record { labels = t .labels ++ (r ∷ []); gaps = t .gaps }
 add t (Gap g) = record { labels = t .labels; gaps = t .gaps ++ (g ∷ []) }
 
--- a text is a sheet, or has a first bad line, "line from 1"
+-- what came before a line: the labels so far
+abbrev pub earlierOf : Typed → Earlier
+earlierOf t = record { labels = length (t .labels) }
+
+-- a text is a sheet, or has a first bad line, "line from 1", with its number and its field
 pub data Outcome : Type 0 where
-  bad-line : ℕ → Outcome
+  bad-line : (line number field : ℕ) → Outcome
   sheet : Typed → Outcome
 
--- "A line is taken apart as label or gap; otherwise the reading stops there with 10"
+-- "A line is taken apart as label or gap; otherwise the reading stops there"; "The first bad line still wins"
 abbrev pub follow : Taken → ℕ → Typed → (Typed → Outcome) → Outcome
-follow Bad n t next = bad-line n
+follow (Bad number field) n t next = bad-line n number field
 follow (Good row) n t next = next (add t row)
 
 unfoldable pub readFrom : List (List ℕ) → ℕ → Typed → Outcome
 readFrom [] n t = sheet t
-readFrom (l ∷ ls) n t = follow (taken (length (t .labels)) l) n t (readFrom ls (suc n))
+readFrom (l ∷ ls) n t = follow (taken (earlierOf t) l) n t (readFrom ls (suc n))
 
 -- "Empty input is a sheet of no labels"
 abbrev pub outcome : List ℕ → Outcome
@@ -89,8 +94,8 @@ pub record Done : Type 0 where
   pub lists : Lists
 
 -- "A refused call writes nothing"
-abbrev pub refusedWith : ℕ → ℕ → Lists → Done
-refusedWith number place b = record { answer = refusal number place; lists = b }
+abbrev pub refusedWith : (number place field : ℕ) → Lists → Done
+refusedWith number place field b = record { answer = refusal number place field; lists = b }
 
 abbrev pub countsOf : Typed → Counts
 countsOf t = record { labels = length (t .labels); gaps = length (t .gaps) }
@@ -98,21 +103,22 @@ countsOf t = record { labels = length (t .labels); gaps = length (t .gaps) }
 -- a text without a bad line: 1, 2, then 4
 abbrev pub settled : Typed → Lists → Done
 settled t b =
-    cond (ltb labelsMost (length (t .labels))) (refusedWith 1 0 b)
-    (cond (ltb gapsMost (length (t .gaps))) (refusedWith 2 0 b)
-    (cond (roomFor t b) (record { answer = Sheet (countsOf t); lists = filled t b }) (refusedWith 4 0 b)))
+    cond (ltb labelsMost (length (t .labels))) (refusedWith 1 0 noField b)
+    (cond (ltb gapsMost (length (t .gaps))) (refusedWith 2 0 noField b)
+    (cond (roomFor t b) (record { answer = Sheet (countsOf t); lists = filled t b }) (refusedWith 4 0 noField b)))
 
+-- "the line remains the place"
 abbrev pub judged : Outcome → Lists → Done
-judged (bad-line n) b = refusedWith 10 n b
+judged (bad-line n number field) b = refusedWith number n field b
 judged (sheet t) b = settled t b
 
 -- refusal 11: "above 16,384 bytes"
 abbrev pub textMost : ℕ
 textMost = 16384
 
--- "Checks run in this order: 11, 10, then 1": the whole of a reading
+-- "Checks run in this order: 11, 10, then 1", and 13 to 15 stand where 10 stood: the whole of a reading
 unfoldable pub reading : List ℕ → Lists → Done
-reading text b = cond (ltb textMost (length text)) (refusedWith 11 0 b) (judged (outcome text) b)
+reading text b = cond (ltb textMost (length text)) (refusedWith 11 0 noField b) (judged (outcome text) b)
 
 -- ---- the lent lists: as a `requires` sees them, and at entry and exit as an `ensures` does
 

@@ -13,8 +13,8 @@ pub struct Counts {
     pub gaps: usize,
 }
 
-// The answer of the reader: a sheet of so many labels and gaps, or a refusal.
+// The answer of the reader: a sheet of so many labels and gaps, or a refusal and, beside it, the bad field of its line.
 pub enum Reading {
     Sheet(Counts),
-    Refused(Refusal),
+    Refused(Refusal, usize),
 }

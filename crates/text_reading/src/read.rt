@@ -11,6 +11,8 @@ use ground::limits::GapIndices;
 use ground::limits::GapInts;
 use ground::limits::LABELS;
 use ground::limits::LabelInts;
+use text_rows::Earlier;
+use text_rows::NO_FIELD;
 use text_rows::Taken;
 use text_rows::lines::Cursor;
 use text_rows::lines::line_at;
@@ -32,15 +34,16 @@ pub(crate) struct Room {
     pub distance: usize,
 }
 
-// A refusal; with a text there is no ring.
-fn refused(number: usize, place: usize) -> Reading
-    ensures { λ r. ⌜ r ≡ refusal number place ⌝ }
+// A refusal and its bad field; with a text there is no ring.
+fn refused(number: usize, place: usize, field: usize) -> Reading
+    ensures { λ r. ⌜ r ≡ refusal number place field ⌝ }
 {
-    Reading::Refused(Refusal {
+    let told = Refusal {
         number,
         place,
         ring: 0,
-    })
+    };
+    Reading::Refused(told, field)
 }
 
 // Reads the lines into work arrays: all records are counted, and those that there is room for are stored.
@@ -65,9 +68,12 @@ fn read_lines(
         let found = line_at(text, from);
         let at = from.at;
         let end = found.end;
-        let labels = counts.labels;
-        let Taken::Good(row) = take_row(&text[at..end], labels) else {
-            return refused(10, from.line);
+        let earlier = Earlier {
+            labels: counts.labels,
+        };
+        let taken = take_row(&text[at..end], earlier);
+        let Taken::Good(row) = taken else {
+            return refused(taken.number(), from.line, taken.field());
         };
         counts = store(row, counts, wanted, weight, left, right, distance);
         from = found.next;
@@ -82,25 +88,25 @@ fn judge(counts: Counts, room: Room) -> Reading
     let labels = counts.labels;
     let gaps = counts.gaps;
     if LABELS < labels {
-        return refused(1, 0);
+        return refused(1, 0, NO_FIELD);
     }
     if GAPS < gaps {
-        return refused(2, 0);
+        return refused(2, 0, NO_FIELD);
     }
     if room.wanted < labels {
-        return refused(4, 0);
+        return refused(4, 0, NO_FIELD);
     }
     if room.weight < labels {
-        return refused(4, 0);
+        return refused(4, 0, NO_FIELD);
     }
     if room.left < gaps {
-        return refused(4, 0);
+        return refused(4, 0, NO_FIELD);
     }
     if room.right < gaps {
-        return refused(4, 0);
+        return refused(4, 0, NO_FIELD);
     }
     if room.distance < gaps {
-        return refused(4, 0);
+        return refused(4, 0, NO_FIELD);
     }
     Reading::Sheet(counts)
 }
@@ -161,7 +167,7 @@ pub fn read_sheet(
         ⌜ ReadInto (before text) (l .entry) r (l .exit) ⌝ }
 {
     if TEXT_MOST < text.len() {
-        return refused(11, 0);
+        return refused(11, 0, NO_FIELD);
     }
     let mut d = [0i64; LABELS];
     let mut w = [0i64; LABELS];

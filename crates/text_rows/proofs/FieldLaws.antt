@@ -9,11 +9,12 @@ use borrow.Author.Tests.{eq-eqb, ne-eqb, ltb-true, ltb-false, lt-ltb, le-ltb}
 use lib.Dec.{eqb, ltb}
 use lib.ListN.{length, take, drop, getD, drop-of-length-le}
 use lib.Seq.{drop-cons}
+use Rattle.text_rows.specs.declared.Earlier.{Earlier}
 use Rattle.text_rows.specs.declared.Taken.{Taken}
 use Rattle.text_rows.specs.declared.Taken.the-variants.{Bad}
 use Rattle.text_rows.specs.Lines.{comma, push, fields}
 use Rattle.text_rows.specs.Fields.{FirstComma}
-use Rattle.text_rows.specs.Taking.{same, rowOf, taken}
+use Rattle.text_rows.specs.Taking.{noField, same, rowOf, taken}
 
 -- ---- words
 
@@ -103,23 +104,23 @@ module _ (line : List ℕ) {from r : ℕ} (first : FirstComma line from r) where
 
 -- ---- lines of one to four fields, and of more
 
-module _ (labels : ℕ) (line : List ℕ) {a : ℕ} (fa : FirstComma line 0 a) where
-  pub one-field : a ≡ length line → Bad ≡ taken labels line
+module _ (earlier : Earlier) (line : List ℕ) {a : ℕ} (fa : FirstComma line 0 a) where
+  pub one-field : a ≡ length line → Bad 10 noField ≡ taken earlier line
   unfolding rowOf
   one-field e = rw (last-field line fa e)
 
   module _ (ha : a ≡ length line → ⊥) {b : ℕ} (fb : FirstComma line (a + 1) b) where
-    pub two-fields : b ≡ length line → Bad ≡ taken labels line
+    pub two-fields : b ≡ length line → Bad 10 noField ≡ taken earlier line
     unfolding rowOf
     two-fields e = rw (field-before line fa ha, last-field line fb e)
 
     module _ (hb : b ≡ length line → ⊥) {c : ℕ} (fc : FirstComma line (b + 1) c) where
-      pub three-fields : c ≡ length line → Bad ≡ taken labels line
+      pub three-fields : c ≡ length line → Bad 10 noField ≡ taken earlier line
       unfolding rowOf
       three-fields e = rw (field-before line fa ha, field-before line fb hb, last-field line fc e)
 
       module _ (hc : c ≡ length line → ⊥) {d : ℕ} (fd : FirstComma line (c + 1) d) where
-        pub more-fields : (d ≡ length line → ⊥) → Bad ≡ taken labels line
+        pub more-fields : (d ≡ length line → ⊥) → Bad 10 noField ≡ taken earlier line
         unfolding rowOf
         more-fields hd =
             rw (
@@ -133,8 +134,8 @@ module _ (labels : ℕ) (line : List ℕ) {a : ℕ} (fa : FirstComma line 0 a) w
             )
 
         pub four-fields :
-            d ≡ length line → {t : Taken} → t ≡ rowOf labels
-            (part line 0 a ∷ part line (a + 1) b ∷ part line (b + 1) c ∷ part line (c + 1) d ∷ []) → t ≡ taken labels
+            d ≡ length line → {t : Taken} → t ≡ rowOf earlier
+            (part line 0 a ∷ part line (a + 1) b ∷ part line (b + 1) c ∷ part line (c + 1) d ∷ []) → t ≡ taken earlier
             line
         four-fields e h =
             rw (field-before line fa ha, field-before line fb hb, field-before line fc hc, last-field line fd e) h

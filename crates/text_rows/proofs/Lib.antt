@@ -3,4 +3,5 @@ pub mod FieldLaws
 pub mod AnswerLaws
 pub mod LineLaws
 pub mod Decimal
+pub mod BadLines
 pub mod WrongTexts

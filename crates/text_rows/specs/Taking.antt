@@ -1,10 +1,12 @@
--- A line taken apart as label or gap (document 01, "Sheet text").
-use Prim.Native.Nat.{ℕ}
+-- A line taken apart as label or gap (document 01, "Sheet text"; document 02, Item 5).
+use Prim.Native.Nat.{ℕ, _≤_, _<_}
+use mathlib.Core.Path.{_≡_}
 use mathlib.Core.Bool.{Bool, true, false, cond, _&&_}
 use mathlib.Core.List.{List, [], _∷_}
 use lib.Dec.{eqb}
 use lib.ListN.{length, getD}
 use mathlib.Core.Option.{Option, none, some}
+use Rattle.text_rows.specs.declared.Earlier.{Earlier}
 use Rattle.text_rows.specs.declared.Row.the-variants.{Label, Gap}
 use Rattle.text_rows.specs.declared.Taken.{Taken}
 use Rattle.text_rows.specs.declared.Taken.the-variants.{Good, Bad}
@@ -26,35 +28,59 @@ labelWord = bytes "label"
 abbrev pub gapWord : List ℕ
 gapWord = bytes "gap"
 
--- what a field tells, if it tells anything; a field that breaks its rule makes a bad line
-abbrev pub given : {A : Type 0} → Option A → (A → Taken) → Taken
-given none next = Bad
-given (some a) next = next a
+-- "the bad field counted from 1, else 0"
+abbrev pub noField : ℕ
+noField = 0
 
--- "label, its number, wanted place, weight": "Label numbers run 0, 1, 2 in the order of their records",
--- so the number is the count of labels before
-abbrev pub labelRow : ℕ → (number′ wanted weight : List ℕ) → Taken
-labelRow labels k d w =
-    given (number k) (λ n. given (signed d) (λ z. given (weightOf w) (λ m.
-    cond (eqb n labels) (Good (Label (record { wanted = z; weight = m }))) Bad)))
+-- the refusal of a line, and its bad field: 0 for one that is taken
+abbrev pub badNumber : Taken → ℕ
+badNumber (Good row) = 0
+badNumber (Bad number field) = number
+
+abbrev pub badField : Taken → ℕ
+badField (Good row) = noField
+badField (Bad number field) = field
+
+-- "a number that breaks its rule is 14": what a field tells, or the line is refused at this field
+abbrev pub given : {A : Type 0} → (field : ℕ) → Option A → (A → Taken) → Taken
+given field none next = Bad 14 field
+given field (some a) next = next a
+
+-- "label, its number, wanted place, weight": "14 at its first bad field, then 15". "Label numbers run 0, 1, 2 in the order
+-- of their records", so the number is the count of labels before; "a label number out of turn is 15"
+abbrev pub labelRow : Earlier → (number′ wanted weight : List ℕ) → Taken
+labelRow earlier k d w =
+    given 2 (number k) (λ n. given 3 (signed d) (λ z. given 4 (weightOf w) (λ m.
+    cond (eqb n (earlier .labels)) (Good (Label (record { wanted = z; weight = m }))) (Bad 15 2))))
 
 -- "gap, left, right, distance"
 abbrev pub gapRow : (left right distance : List ℕ) → Taken
 gapRow u v g =
-    given (number u) (λ l. given (number v) (λ r. given (signed g) (λ z.
+    given 2 (number u) (λ l. given 3 (number v) (λ r. given 4 (signed g) (λ z.
     Good (Gap (record { left = l; right = r; distance = z })))))
 
 -- a field of a line
 abbrev pub fieldAt : List (List ℕ) → ℕ → List ℕ
 fieldAt fs k = getD fs k []
 
--- "Each record has four fields": a line after this many labels, taken apart as label or gap
-unfoldable pub rowOf : ℕ → List (List ℕ) → Taken
-rowOf labels fs =
+-- "10 is left for a line without four fields. A first field that is neither kind is 13": 10, then 13, then the rest
+unfoldable pub rowOf : Earlier → List (List ℕ) → Taken
+rowOf earlier fs =
     cond (eqb (length fs) 4)
-    (cond (same (fieldAt fs 0) labelWord) (labelRow labels (fieldAt fs 1) (fieldAt fs 2) (fieldAt fs 3))
-    (cond (same (fieldAt fs 0) gapWord) (gapRow (fieldAt fs 1) (fieldAt fs 2) (fieldAt fs 3)) Bad))
-    Bad
+    (cond (same (fieldAt fs 0) labelWord) (labelRow earlier (fieldAt fs 1) (fieldAt fs 2) (fieldAt fs 3))
+    (cond (same (fieldAt fs 0) gapWord) (gapRow (fieldAt fs 1) (fieldAt fs 2) (fieldAt fs 3)) (Bad 13 1)))
+    (Bad 10 noField)
 
-abbrev pub taken : ℕ → List ℕ → Taken
-taken labels line = rowOf labels (fields line)
+-- a line after those before it
+abbrev pub taken : Earlier → List ℕ → Taken
+taken earlier line = rowOf earlier (fields line)
+
+-- what holds of a number that is told for a text, and of the field beside it: 13 names the first field, 14 the second to the
+-- fourth, 15 the second, and no other number one
+pub record FieldTold (number field : ℕ) : Type 0 where
+  pub none : number < 13 → field ≡ noField
+  pub kind : number ≡ 13 → field ≡ 1
+  pub least : number ≡ 14 → 2 ≤ field
+  pub turn : number ≡ 15 → field ≡ 2
+  pub number-most : number ≤ 15
+  pub field-most : field ≤ 4

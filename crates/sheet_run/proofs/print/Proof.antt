@@ -31,14 +31,14 @@ returns c =
     let w = c .before .before in
     let s = w .before .before .before .before in
     absurd
-    (never-refused (s .args .answer) (lent s) (now (s .args .out)) (s .pre .0) (omega (arith, s .pre .1, room w))
+    (never-refused (s .args .answer) (s .args .field) (lent s) (now (s .args .out)) (s .pre .0) (omega (arith, s .pre .1, room w))
     (sym (c .enum-told .given .1) ∙ w .write-listing .ensures .0))
 
 returns-2 : tie.Need-returns-2
 returns-2 c =
     let w = c .before .before .before in
     let s = w .before .before .before .before in
-    printed (s .args .answer) (lent s) (now (s .args .out)) (s .pre .0) (omega (arith, s .pre .1, room w)) _ _ (room w)
+    printed (s .args .answer) (s .args .field) (lent s) (now (s .args .out)) (s .pre .0) (omega (arith, s .pre .1, room w)) _ _ (room w)
     (sym (c .before .size .given .1) ∙ w .write-listing .ensures .0)
     (w .write-listing .ensures .1)
 

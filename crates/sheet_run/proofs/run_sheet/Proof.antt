@@ -55,7 +55,7 @@ print-requires c κs =
     let d = c .before .before .before .before .before .before .before .before .before .before .before .before .before .before in (
       record { labels = omega arith; gaps = omega arith; dens = refl; right = refl; distance = refl },
       refusal-most (now (d .before .before .before .before .before .before .before .args .text)) (d .read-sheet .result)
-          (read-into d) (d .read-sheet .ensures) _ (c .before .before .before .before .before .before .before .found .given .1),
+          (read-into d) (d .read-sheet .ensures) _ _ (c .before .before .before .before .before .before .before .found .given .1),
     )
 
 enum-known-found-2 : tie.Need-enum-known-found-2
@@ -95,7 +95,7 @@ returns : tie.Need-returns
 returns c =
     let d = c .before .before .before .before .before .before .before .before .before .before .before .before .before .before .before in
     let s = d .before .before .before .before .before .before .before in
-    run-refused (now (s .args .text)) (d .read-sheet .result) (read-into d) (d .read-sheet .ensures) _
+    run-refused (now (s .args .text)) (d .read-sheet .result) (read-into d) (d .read-sheet .ensures) _ _
     (c .before .before .before .before .before .before .before .before .found .given .1) (now (s .args .out)) _ _ (c .print .ensures)
 
 returns-2 : tie.Need-returns-2

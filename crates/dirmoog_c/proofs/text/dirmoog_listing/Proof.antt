@@ -33,14 +33,14 @@ returns : tie.Need-returns
 returns c =
     let a = c .before .before .before .before .before .before .before .before .before .before .before .before .before .before .before .args in
     let l : Listable = listableNow (a .place-num) (a .place-den) (a .left) (a .right) (a .distance) in
-    let listing = ap (λ (r : Answer). listedIn r l (a .text .now)) (c .before .before .before .before .before .before .before .before .before .before .answer-of .ensures) in
+    let listing = ap (λ (r : Answer). listedIn r (a .field) l (a .text .now)) (c .before .before .before .before .before .before .before .before .before .before .answer-of .ensures) in
     let wrote = c .before .before .before .before .before .before .before .before .write-listing .ensures in
     let answer = wrote .0 ∙ ap (λ (l : Listing). l .answer) listing in
     record {
       written = wrote .1 ∙ ap (λ (l : Listing). l .buffer) listing;
       returned = c .listed-number .ensures ∙ ap numberOf answer;
       out-told = told-at (a .out .now) 0 (c .before .before .before .put .ensures) (c .before .before .before .before .listed-bytes .ensures ∙ ap bytesOf answer);
-      no-place = listing-place _ _ _;
+      no-place = listing-place _ _ _ _;
     }
 
 pub dirmoog-listing-spec : {M : Type 1} → statement M

@@ -26,10 +26,11 @@ same-length : tie.Need-same-length
 same-length c = search needs
 
 returns : tie.Need-returns
+unfolding listedIn
 returns c =
     let s = c .before .before .before .before .before .before .before .before .before in
     let e = c .before .before .list-sheet .ensures
-    ∙ ap (λ (r : Answer). listedIn r (listable s) (now (s .args .out)))
+    ∙ ap (λ (r : Answer). listedIn r (s .args .field) (listable s) (now (s .args .out)))
     (sym (c .before .before .before .before .enum-told .given .1)) in
     (ap (λ (l : Listing). l .answer) e, ap (λ (l : Listing). l .buffer) e)
 
@@ -41,7 +42,7 @@ unfolding listedIn
 returns-2 c =
     let s = c .before .before .before .before .before .before .before .before .before .before in
     let e = c .before .before .list-refused .ensures
-    ∙ ap (λ (r : Answer). listedIn r (listable s) (now (s .args .out)))
+    ∙ ap (λ (r : Answer). listedIn r (s .args .field) (listable s) (now (s .args .out)))
     (sym (c .before .before .before .before .before .answer .given .1)) in
     (ap (λ (l : Listing). l .answer) e, ap (λ (l : Listing). l .buffer) e)
 

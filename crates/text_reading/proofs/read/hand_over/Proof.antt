@@ -47,7 +47,7 @@ enum-told c = search needs
 returns : tie.Need-returns
 returns c =
     let s = c .before .before .before .before .before .before .before in
-    handed-refused (s .args .counts) (lent s) _ (c .before .before .judge .ensures) (work s) _
+    handed-refused (s .args .counts) (lent s) _ (c .before .before .judge .ensures) (work s) _ _
     (c .enum-told .given .1)
 
 copy-ints-requires : tie.Need-copy-ints-requires

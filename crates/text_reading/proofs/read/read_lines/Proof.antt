@@ -42,20 +42,28 @@ part-take-row-end c = c .line-at .ensures .stop
 take-row-requires : tie.Need-take-row-requires Inv-loop μ-loop
 take-row-requires c κs = search needs
 
-enum-known-row : tie.Need-enum-known-row Inv-loop μ-loop
-enum-known-row c = search needs
+enum-known-taken : tie.Need-enum-known-taken Inv-loop μ-loop
+enum-known-taken c = search needs
 
 enum-told : tie.Need-enum-told Inv-loop μ-loop
 enum-told c = search needs
+
+number-requires : tie.Need-number-requires Inv-loop μ-loop
+number-requires c κs = search needs
+
+field-requires : tie.Need-field-requires Inv-loop μ-loop
+field-requires c κs = search needs
 
 refused-requires : tie.Need-refused-requires Inv-loop μ-loop
 refused-requires c κs = search needs
 
 returns : tie.Need-returns Inv-loop μ-loop
 returns c =
-    reached-bad (c .before .before .before .before .before .before .before .before .loop .inv)
-    (c .before .before .before .before .before .line-at .ensures) _
-    (sym (c .before .before .before .take-row .ensures) ∙ c .before .enum-told .given .1) (c .refused .ensures)
+    let bad = c .before .before .before in
+    let line = bad .before .before .before .before in
+    reached-bad (line .before .before .before .loop .inv) (line .line-at .ensures) _
+    (bad .before .before .take-row .ensures) (bad .enum-told .given .1)
+    (c .before .before .number .ensures) (c .before .field .ensures) _ (c .refused .ensures)
 
 store-requires : tie.Need-store-requires Inv-loop μ-loop
 store-requires c κs =
@@ -75,7 +83,7 @@ loop-again c =
     let row = c .before .before .before .before .before .before .before .before in
     let line = row .before .before .before .before in
     reached-turn (line .before .before .before .loop .inv) (line .line-at .ensures) _
-    (sym (row .before .before .take-row .ensures) ∙ row .row .given .1)
+    (sym (row .before .before .take-row .ensures) ∙ row .taken .given .1)
     (c .before .store .ensures)
 
 returns-2 : tie.Need-returns-2 Inv-loop μ-loop
@@ -93,8 +101,10 @@ read-lines-spec =
     part-take-row-start
     part-take-row-end
     take-row-requires
-    enum-known-row
+    enum-known-taken
     enum-told
+    number-requires
+    field-requires
     refused-requires
     returns
     store-requires

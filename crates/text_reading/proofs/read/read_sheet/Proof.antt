@@ -59,7 +59,7 @@ returns-2 c =
     let s = c .before .before .before .before .before .before .before .before .before .before .before .before in
     read-bad (now (s .args .text)) _ (work (c .before .before)) (lent s)
     (c .before .before .before .before .before .before .before .before .if1 .left)
-    (c .before .before .read-lines .ensures) _ (c .enum-told .given .1)
+    (c .before .before .read-lines .ensures) _ _ (c .enum-told .given .1)
 
 slice-aggregate-hand-over : tie.Need-slice-aggregate-hand-over
 slice-aggregate-hand-over c = sym (sizes (c .before .before) .wanted)

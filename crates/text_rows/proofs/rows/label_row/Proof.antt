@@ -89,29 +89,29 @@ weight-told c =
 returns-4 : tie.Need-returns-4
 returns-4 c =
     rw (
-      number-told (c .before .before .before .before .before .before .before .before .before),
-      wanted-told (c .before .before .before .before .before),
-      weight-told (c .before),
+      number-told (c .before .before .before .before .before .before .before .before .before .before),
+      wanted-told (c .before .before .before .before .before .before),
+      weight-told (c .before .before),
       ne-eqb
-          (c .before .before .before .before .before .before .before .before .before .before .n .given .0 .0)
-          (c .before .before .before .before .before .before .before .before .before .before .before .before .before .before
-          .before .before .args .labels) (λ e. omega arith),
+          (c .before .before .before .before .before .before .before .before .before .before .before .n .given .0 .0)
+          (c .before .before .before .before .before .before .before .before .before .before .before .before .before .before .before
+          .before .before .args .earlier .labels) (λ e. omega arith),
     )
 
 returns-5 : tie.Need-returns-5
 returns-5 c =
     rw (
-      number-told (c .before .before .before .before .before .before .before .before .before),
-      wanted-told (c .before .before .before .before .before),
-      weight-told (c .before),
+      number-told (c .before .before .before .before .before .before .before .before .before .before),
+      wanted-told (c .before .before .before .before .before .before),
+      weight-told (c .before .before),
       eq-eqb
-          (c .before .before .before .before .before .before .before .before .before .before .n .given .0 .0)
-          (c .before .before .before .before .before .before .before .before .before .before .before .before .before .before
-          .before .before .args .labels) (omega arith),
+          (c .before .before .before .before .before .before .before .before .before .before .before .n .given .0 .0)
+          (c .before .before .before .before .before .before .before .before .before .before .before .before .before .before .before
+          .before .before .args .earlier .labels) (omega arith),
       toZ-ofZ w64
-          (c .before .before .before .before .before .before .d .given .0 .0) (search needs),
+          (c .before .before .before .before .before .before .before .d .given .0 .0) (search needs),
       toZ-ofZ w64
-          (c .before .before .w .given .0 .0) (search needs),
+          (c .before .before .before .w .given .0 .0) (search needs),
     )
 
 pub label-row-spec : {M : Type 1} → statement M

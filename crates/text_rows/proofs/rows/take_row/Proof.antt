@@ -12,7 +12,7 @@ comma-from-requires c κs = search needs
 returns : tie.Need-returns
 returns c =
     let s = c .before .before .before .args in
-    one-field (s .labels) (s .line .now) (c .before .comma-from .ensures) (c .if1 .taken)
+    one-field (s .earlier) (s .line .now) (c .before .comma-from .ensures) (c .if1 .taken)
 
 add-comma-from : tie.Need-add-comma-from
 add-comma-from c = search needs
@@ -23,7 +23,7 @@ comma-from-requires-2 c κs = search needs
 returns-2 : tie.Need-returns-2
 returns-2 c =
     let s = c .before .before .before .before .before .args in
-    two-fields (s .labels) (s .line .now) (c .before .before .before .comma-from .ensures)
+    two-fields (s .earlier) (s .line .now) (c .before .before .before .comma-from .ensures)
     (c .before .before .if1 .left) (c .before .comma-from2 .ensures) (c .if2 .taken)
 
 add-comma-from-2 : tie.Need-add-comma-from-2
@@ -35,7 +35,7 @@ comma-from-requires-3 c κs = search needs
 returns-3 : tie.Need-returns-3
 returns-3 c =
     let s = c .before .before .before .before .before .before .before .args in
-    three-fields (s .labels) (s .line .now) (c .before .before .before .before .before .comma-from .ensures)
+    three-fields (s .earlier) (s .line .now) (c .before .before .before .before .before .comma-from .ensures)
     (c .before .before .before .before .if1 .left) (c .before .before .before .comma-from2 .ensures)
     (c .before .before .if2 .left) (c .before .comma-from3 .ensures) (c .if3 .taken)
 
@@ -48,7 +48,7 @@ comma-from-requires-4 c κs = search needs
 returns-4 : tie.Need-returns-4
 returns-4 c =
     let s = c .before .before .before .before .before .before .before .before .before .args in
-    more-fields (s .labels) (s .line .now)
+    more-fields (s .earlier) (s .line .now)
     (c .before .before .before .before .before .before .before .comma-from .ensures)
     (c .before .before .before .before .before .before .if1 .left)
     (c .before .before .before .before .before .comma-from2 .ensures) (c .before .before .before .before .if2 .left)
@@ -107,7 +107,7 @@ returns-5 : tie.Need-returns-5
 returns-5 c =
     let s = c .before .before .before .before .before .before .before .before .before .before .before .before .before
     .before .args in
-    four-fields (s .labels) (s .line .now)
+    four-fields (s .earlier) (s .line .now)
     (c .before .before .before .before .before .before .before .before .before .before .before .before .comma-from
     .ensures) (c .before .before .before .before .before .before .before .before .before .before .before .if1 .left)
     (c .before .before .before .before .before .before .before .before .before .before .comma-from2 .ensures)
