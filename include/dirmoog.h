@@ -6,7 +6,7 @@
  * and any contents may be lent, and every call returns. The calls keep no state, so threads may call them at once.
  *
  * The caller sees to the stack: nothing checks that there is enough. Arguments and return address included,
- * dirmoog_layout needs at most 18,232 bytes, dirmoog_read 5,576, dirmoog_listing 25,728, dirmoog_slack 40, dirmoog_round
+ * dirmoog_layout needs at most 18,232 bytes, dirmoog_read 5,624, dirmoog_listing 25,736, dirmoog_slack 40, dirmoog_round
  * and dirmoog_round_half_up 8. What memcpy and memset need comes on top: a first call that has them looked up took at most
  * 2,232 bytes more. 32 KiB are enough.
  *
@@ -22,16 +22,23 @@
  *    7   stranger      left or right is no label of the sheet                                               gap
  *    8   bad gap       a distance outside -20,000 to 20,000                                                 gap
  *    9   ring          no placement meets all gaps                                                          0
- *   10   bad line      the text breaks a rule                                                               line, from 1
+ *   10   bad line      a line without four fields                                                           line, from 1
  *   11   long text     the text is above 16,384 bytes                                                       0
  *   12   bad fraction  a denominator outside 1 to 4,800, or a numerator beyond 5,472,000,000 either way     0
+ *   13   unknown kind  the first field is neither label nor gap                                             line, from 1
+ *   14   bad number    a number breaks its rule                                                             line, from 1
+ *   15   out of turn   a label's number is not the count of labels before it                                line, from 1
  *
- * The checks run in the order 11, 10, then 1 to 9, each over the whole sheet before the next; the place is the first
- * offender. Labels and gaps count from 0.
+ * The checks run in this order: 11; then 10, 13, 14 and 15 line by line, where the first bad line wins; then 1 to 9, each
+ * over the whole sheet before the next. Within a line the order is 10, 13, 14 at its first bad field, 15. The place is the
+ * first offender. Labels and gaps count from 0.
  *
- * dirmoog_layout gives 1 to 9, dirmoog_read 11, 10, 1, 2 and 4, and dirmoog_listing 1 to 4. 12 belongs to the calls over
- * single fractions: dirmoog_round and dirmoog_round_half_up give 12, and dirmoog_slack 12, then 8. These three and
- * dirmoog_listing tell no place: it is always 0.
+ * 13, 14 and 15 have a field beside the place, the bad field of the line, from 1: that is 1 for 13, 2 to 4 for 14 and 2 for
+ * 15. With every other number the field is 0.
+ *
+ * dirmoog_layout gives 1 to 9, dirmoog_read 11, 10, 13, 14, 15, 1, 2 and 4, and dirmoog_listing 1 to 4. 12 belongs to the
+ * calls over single fractions: dirmoog_round and dirmoog_round_half_up give 12, and dirmoog_slack 12, then 8. These three
+ * and dirmoog_listing tell no place: it is always 0.
  */
 #ifndef DIRMOOG_H
 #define DIRMOOG_H
@@ -124,19 +131,20 @@ uint64_t dirmoog_slack(int64_t left_num, int64_t left_den,
                        int64_t *out, size_t out_len);
 
 /*
- * Reads a sheet's text into lists. Refused with 11, 10, 1, 2 or 4.
+ * Reads a sheet's text into lists. Refused with 11, 10, 13, 14, 15, 1, 2 or 4.
  *
  * The text is comma-separated records, each ended by CRLF or LF; the last end may lack. A record has four fields: "label",
  * its number, wanted place, weight; or "gap", left, right, distance. A number is 1 to 9 digits, leading zeros allowed, with
  * a minus sign in front only in a wanted place or a distance. A blank weight is 10. Label numbers run 0, 1, 2; gaps are
- * numbered in their order, and a gap may come before the labels it names. Quotes, blank lines, any other blank field and a
- * CR that is not just before a LF make a bad line.
+ * numbered in their order, and a gap may come before the labels it names. A blank line has one field. Any other byte, also
+ * a quote or a CR that is not just before a LF, belongs to its field, and no field but a weight may be blank.
  *
  *   text       the bytes of the text; none are a sheet of no labels
  *   wanted, weight            one entry per label is written
  *   left, right, distance     one entry per gap is written. 48 and 192 entries are room for every sheet.
- *   out        0: the count of labels, then the count of gaps. Refused: the place, then 0. What fits is written: an out
- *              of 1 entry loses the count of gaps, and an empty one that of labels, or the place, too.
+ *   out        0: the count of labels, then the count of gaps. Refused: the place, then the bad field of the line, from 1,
+ *              for 13 to 15, else 0. What fits is written: an out of 1 entry loses the count of gaps, or the field, and
+ *              an empty one the count of labels, or the place, too.
  *
  * Entries beyond stay. Where it is refused, out alone is written. What is read may break rules 5 to 9, which
  * dirmoog_layout checks.
@@ -151,12 +159,15 @@ uint64_t dirmoog_read(const uint8_t *text, size_t text_len,
 
 /*
  * Writes the listing of an answer: for placed "place", label, numerator, denominator, whole unit for each label, and after
- * these "slack", gap, numerator, denominator for each gap, all in the order of their numbers; else "refused", number, place
- * alone. Every record is ended by CRLF. The whole units of the places that dirmoog_layout writes meet every gap of the sheet.
- * The call is refused with 1 (more than 48 labels), 2 (more than 192 gaps), 3 or 4, in this order, all at place 0.
+ * these "slack", gap, numerator, denominator for each gap, all in the order of their numbers; else "refused", number,
+ * place, field alone. Every record is ended by CRLF. The whole units of the places that dirmoog_layout writes meet every
+ * gap of the sheet. The call is refused with 1 (more than 48 labels), 2 (more than 192 gaps), 3 or 4, in this order, all at
+ * place 0.
  *
  *   number     the answer's number: 0 for placed. Where it is not 0, the five lists below are without effect.
  *   place      the answer's place; without effect where number is 0
+ *   field      the bad field that dirmoog_read tells, or 0 for an answer of dirmoog_layout, whose out has the ring's length
+ *              there. The record shows it as it is; without effect where number is 0.
  * To read, one entry per label (their count is place_num_len):
  *   place_num  numerators of the places
  *   place_den  denominators of the places; as many entries. The whole unit of a place is what dirmoog_round_half_up gives,
@@ -172,7 +183,7 @@ uint64_t dirmoog_read(const uint8_t *text, size_t text_len,
  *
  * The bytes beyond stay. Where it is refused, out alone is written.
  */
-uint64_t dirmoog_listing(uint64_t number, uint64_t place,
+uint64_t dirmoog_listing(uint64_t number, uint64_t place, uint64_t field,
                          const int64_t *place_num, size_t place_num_len,
                          const int64_t *place_den, size_t place_den_len,
                          const uint64_t *left, size_t left_len,

@@ -7,8 +7,11 @@
 //! tells how far a gap is from closing. Any slices may be lent: nothing panics. A call needs less than
 //! 32 KiB of stack.
 //!
+//! A sheet's text is read by [`read_sheet`], and [`write_listing`] writes what a station prints. A
+//! refusal, [`Refusal`] or [`TextRefusal`], is an error that prints itself in words.
+//!
 //! What is proved is the library. Nothing proves this package: its `unsafe` calls, how it turns
-//! numbers into enums, and [`ring_part`], which is its own.
+//! numbers into enums and words, and [`ring_part`], which is its own.
 //!
 //! ```
 //! use dirmoog::{lay_out, round_half_up, slack};
@@ -44,8 +47,9 @@
 
 pub mod raw;
 mod text;
+mod words;
 
-pub use text::{read_sheet, write_listing, Counts, Listable, Listed, Lists, Reading};
+pub use text::{read_sheet, write_listing, Counts, Listable, Listed, Lists, Reading, TextRefusal};
 
 /// A refusal: its number in the refusal table, its place (a label, a gap or a line, else 0) and,
 /// with 9, the ring's length.

@@ -5,8 +5,8 @@
 //! enough, and nothing checks it (the header has the figures).
 //!
 //! What fits into `out` is written, and the rest is lost: one of 1 entry loses the ring's length
-//! ([`dirmoog_layout`]), the denominator ([`dirmoog_slack`]) or the count of gaps ([`dirmoog_read`]),
-//! and an empty one all but the number that is returned.
+//! ([`dirmoog_layout`]), the denominator ([`dirmoog_slack`]) or the count of gaps or the bad field
+//! ([`dirmoog_read`]), and an empty one all but the number that is returned.
 
 extern "C" {
     pub fn dirmoog_layout(
@@ -70,6 +70,7 @@ extern "C" {
     pub fn dirmoog_listing(
         number: u64,
         place: u64,
+        field: u64,
         place_num: *const i64,
         place_num_len: usize,
         place_den: *const i64,

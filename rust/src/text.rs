@@ -8,11 +8,53 @@ pub struct Counts {
     pub gaps: u64,
 }
 
+/// The refusal of a text and, beside it, the bad field of its line: with 13 to 15 counted from 1, else 0.
+/// A text has no ring, so the refusal's is 0.
+#[derive(Clone, Copy, Debug, PartialEq, Eq)]
+pub struct TextRefusal {
+    pub refusal: Refusal,
+    pub field: u64,
+}
+
 /// The answer of the reader.
 #[derive(Clone, Copy, Debug, PartialEq, Eq)]
 pub enum Reading {
     Sheet(Counts),
-    Refused(Refusal),
+    Refused(TextRefusal),
+}
+
+impl Reading {
+    /// The counts of a sheet, or the refusal as an error, which `?` hands on.
+    ///
+    /// ```
+    /// use dirmoog::{read_sheet, Counts, Lists};
+    /// use std::error::Error;
+    ///
+    /// fn count(text: &[u8]) -> Result<Counts, Box<dyn Error>> {
+    ///     let mut lists = Lists {
+    ///         wanted: &mut [0; 48],
+    ///         weight: &mut [0; 48],
+    ///         left: &mut [0; 192],
+    ///         right: &mut [0; 192],
+    ///         distance: &mut [0; 192],
+    ///     };
+    ///     let counts = read_sheet(text, &mut lists).sheet()?;
+    ///     Ok(counts)
+    /// }
+    ///
+    /// let counts = count(b"label,0,0,1\r\ngap,0,0,-6\r\n").unwrap();
+    /// assert_eq!(counts, Counts { labels: 1, gaps: 1 });
+    ///
+    /// // the letter O for a zero
+    /// let error = count(b"label,0,0,1\r\nlabel,1,3,1O\r\n").unwrap_err();
+    /// assert_eq!(error.to_string(), "bad number: line 2, fourth field");
+    /// ```
+    pub fn sheet(self) -> Result<Counts, TextRefusal> {
+        match self {
+            Reading::Sheet(counts) => Ok(counts),
+            Reading::Refused(refused) => Err(refused),
+        }
+    }
 }
 
 /// The answer of the listing: how many bytes were written, or a refusal.
@@ -36,8 +78,12 @@ pub struct Lists<'a> {
 /// Reads a sheet's text into the front of lent lists. The entries beyond stay; a refused text writes nothing. A weight
 /// that is left blank in the text is read as 10; a weight of 0 is no blank one, and [`lay_out`](crate::lay_out) refuses it.
 ///
+/// A text is refused with 11 if it is too long; else at the first bad line, with 10 if that has not four fields, 13 if
+/// its first field is neither kind, 14 if a number breaks its rule, 15 if a label's number is out of turn; else with 1
+/// for too many labels, 2 for too many gaps, 4 if a list is too short.
+///
 /// ```
-/// use dirmoog::{read_sheet, Counts, Lists, Reading};
+/// use dirmoog::{read_sheet, Counts, Lists, Reading, Refusal, TextRefusal};
 ///
 /// let (mut wanted, mut weight) = ([0; 48], [0; 48]);
 /// let (mut left, mut right, mut distance) = ([0; 192], [0; 192], [0; 192]);
@@ -50,6 +96,12 @@ pub struct Lists<'a> {
 /// };
 /// let reading = read_sheet(b"label,0,0,1\r\nlabel,1,3,\r\ngap,0,1,6\r\n", &mut lists);
 /// assert_eq!(reading, Reading::Sheet(Counts { labels: 2, gaps: 1 }));
+///
+/// // a second label with the number of the first: out of turn, and the lists stay as they were read
+/// let reading = read_sheet(b"label,0,7,1\r\nlabel,0,9,1\r\n", &mut lists);
+/// let refusal = Refusal { number: 15, place: 2, ring: 0 };
+/// assert_eq!(reading, Reading::Refused(TextRefusal { refusal, field: 2 }));
+///
 /// assert_eq!((&wanted[..2], &weight[..2]), (&[0, 3][..], &[1, 10][..]));
 /// assert_eq!((left[0], right[0], distance[0]), (0, 1, 6));
 /// ```
@@ -79,7 +131,10 @@ pub fn read_sheet(text: &[u8], lists: &mut Lists<'_>) -> Reading {
             labels: out[0],
             gaps: out[1],
         }),
-        _ => Reading::Refused(refusal(number, out)),
+        _ => Reading::Refused(TextRefusal {
+            refusal: refusal(number, [out[0], 0]),
+            field: out[1],
+        }),
     }
 }
 
@@ -99,6 +154,9 @@ pub struct Listable<'a> {
 /// listing. A slack is 0/1 where an end of the gap is no label, and where [`slack`](crate::slack)
 /// refuses it.
 ///
+/// The field is that of a [`TextRefusal`], and 0 for an answer of [`lay_out`](crate::lay_out). The
+/// refusal's record shows it as it is.
+///
 /// The whole unit of a place is what [`round_half_up`](crate::round_half_up) gives, and 0 where that
 /// refuses it. The whole units of places that [`lay_out`](crate::lay_out) wrote meet every gap.
 ///
@@ -106,7 +164,7 @@ pub struct Listable<'a> {
 /// together and differ in length, 4 for a buffer that is too short; then nothing is written.
 ///
 /// ```
-/// use dirmoog::{write_listing, Answer, Listable, Listed};
+/// use dirmoog::{write_listing, Answer, Listable, Listed, Refusal};
 ///
 /// let lists = Listable {
 ///     place_num: &[-3, 9],
@@ -117,11 +175,17 @@ pub struct Listable<'a> {
 ///     ..Listable::default()
 /// };
 /// let mut text = [0; 64];
-/// let listed = write_listing(Answer::Placed, &lists, &mut text);
+/// let listed = write_listing(Answer::Placed, 0, &lists, &mut text);
 /// assert_eq!(listed, Listed::Written(45));
 /// assert_eq!(&text[..45], b"place,0,-3,2,-1\r\nplace,1,9,2,5\r\nslack,0,0,1\r\n");
+///
+/// // a bad number in the fourth field of line 31, as it is read from a text
+/// let refusal = Refusal { number: 14, place: 31, ring: 0 };
+/// let listed = write_listing(Answer::Refused(refusal), 4, &Listable::default(), &mut text);
+/// assert_eq!(listed, Listed::Written(17));
+/// assert_eq!(&text[..17], b"refused,14,31,4\r\n");
 /// ```
-pub fn write_listing(answer: Answer, lists: &Listable<'_>, text: &mut [u8]) -> Listed {
+pub fn write_listing(answer: Answer, field: u64, lists: &Listable<'_>, text: &mut [u8]) -> Listed {
     let (number, place) = match answer {
         Answer::Placed => (0, 0),
         Answer::Refused(refusal) => (refusal.number, refusal.place),
@@ -132,6 +196,7 @@ pub fn write_listing(answer: Answer, lists: &Listable<'_>, text: &mut [u8]) -> L
         raw::dirmoog_listing(
             number,
             place,
+            field,
             lists.place_num.as_ptr(),
             lists.place_num.len(),
             lists.place_den.as_ptr(),

@@ -10,7 +10,7 @@ int main(void)
     static int64_t wanted[LABELS], weight[LABELS], distance[GAPS];
     static uint64_t left[GAPS], right[GAPS], ring[LABELS];
     static int64_t place_num[LABELS], place_den[LABELS], mult_num[GAPS], mult_den[GAPS];
-    uint64_t told[2] = {0, 0}, labels = 0, gaps = 0, number, bytes;
+    uint64_t told[2] = {0, 0}, labels = 0, gaps = 0, field = 0, number, bytes;
     size_t size = fread(text, 1, TEXT, stdin);
 
     if (ferror(stdin)) /* a failed read is not a short sheet */
@@ -22,9 +22,11 @@ int main(void)
         number = dirmoog_layout(wanted, labels, weight, labels, left, gaps, right, gaps, distance, gaps,
                                 carried, gaps, place_num, LABELS, place_den, LABELS, mult_num, GAPS, mult_den, GAPS,
                                 ring, LABELS, told, 2);
+    } else {
+        field = told[1]; /* the bad field; what dirmoog_layout tells there is the ring's length */
     }
-    if (dirmoog_listing(number, told[0], place_num, labels, place_den, labels, left, gaps, right, gaps, distance, gaps,
-                        listing, LISTING, &bytes, 1) != 0)
+    if (dirmoog_listing(number, told[0], field, place_num, labels, place_den, labels, left, gaps, right, gaps,
+                        distance, gaps, listing, LISTING, &bytes, 1) != 0)
         return 1;
     return fwrite(listing, 1, bytes, stdout) == bytes && fflush(stdout) == 0 ? 0 : 1;
 }

@@ -23,7 +23,7 @@ use Rattle.text_rows.specs.Numeral.{allDigits, digitsOf, number, signed, valueO
 use Rattle.text_rows.specs.Taking.{noField, rowOf, same}
 use Rattle.text_reading.specs.declared.Reading.the-variants.{Sheet}
 use Rattle.text_reading.specs.Texts.{Lists, readFrom, reading}
-use Rattle.text_listing.specs.Listing.{Listable, listedIn, refusedRecord, shownField}
+use Rattle.text_listing.specs.Listing.{Listable, listedIn, refusedRecord}
 use Rattle.text_listing.specs.Listing as writing
 use Rattle.dirmoog_c.specs.Exported.{RoundTold, SlackTold}
 use Rattle.dirmoog_c.specs.Texted.{ListingTold, ReadTold, answerOf, readFirst, readSecond}
@@ -93,7 +93,7 @@ pub field-listed :
     {x n : ℕ} {text-after out-after : List ℕ}
     → ListingTold (listedIn (answerOf 14 31) 4 (sized 0 0 0 0) (replicate 17 0)) (x ∷ []) n text-after out-after
     → (n ≡ 0) × (text-after ≡ bytes "refused,14,31,4\r\n") × (out-after ≡ 17 ∷ [])
-unfolding listedIn refusedRecord shownField digitsOf
+unfolding listedIn refusedRecord digitsOf
 field-listed t = (t .returned, t .written, t .out-told)
 
 -- ---- the slack, of two entries that hold anything

@@ -27,15 +27,15 @@ use Rattle.text_reading.specs.Texts.{Lists, reading}
 use Rattle.text_listing.specs.Listing.{listing, refusedRecord, listingRoom}
 use Rattle.text_listing.proofs.Size.{AllFit, length-refused-record, length-sheet-records}
 use Rattle.sheet_run.specs.Run.{zeroLists, lent, listableRead, PrintedFor, sheetRead}
-use Rattle.sheet_run.proofs.Refusals.{Small, SmallReading, small-reading, small-answer}
+use Rattle.sheet_run.proofs.Refusals.{Small, SmallReading, sheetNumberMost, small-answer, small-reading, textNumberMost}
 
 pub take-most : {A : Type 0} (n : ℕ) (l : List A) → length (take n l) ≤ n
 take-most zero l = omega arith
 take-most (suc n) [] = omega arith
 take-most (suc n) (x ∷ l) = omega (arith, take-most n l)
 
-pub refused-most : (r : Refusal) (field : ℕ) → Small r → field ≤ 4 → length (refusedRecord r field) ≤ listingRoom
-refused-most r field s f =
+pub refused-most : (most : ℕ) → most ≤ textNumberMost → (r : Refusal) (field : ℕ) → Small most r → field ≤ 4 → length (refusedRecord r field) ≤ listingRoom
+refused-most most few r field s f =
     omega
     (arith, length-refused-record r field (record { fits = omega (arith, s .0) }) (record { fits = omega (arith, s .1) }) (record { fits = omega arith }))
 
@@ -67,7 +67,7 @@ module _ (c : Counts) (l : Lists) (w after : Written) (few : c .labels ≤ 48) (
   -- its listing
   pub laid-out-most : (a : Answer) → Promise (sheetRead c l) w a after → length (listing a noField (listableRead c l after)) ≤ listingRoom
   laid-out-most (answer.Refused x) p =
-      refused-most x noField
+      refused-most sheetNumberMost (omega arith) x noField
       (small-answer (sheetRead c l) w (answer.Refused x) after (omega (arith, counted)) (omega (arith, take-most (c .gaps) (l .left))) p)
       (omega arith)
   laid-out-most answer.Placed p = placed-most (placed-accepted p refl)
@@ -77,5 +77,5 @@ pub printed-most : (text printed : List ℕ) → PrintedFor (reading text zeroLi
 printed-most text printed h = go (reading text zeroLists .answer) (reading text zeroLists .lists) (small-reading text zeroLists) h
   where
     go : (r : Reading) (l : Lists) → SmallReading r l → PrintedFor r l printed → length printed ≤ listingRoom
-    go (Refused x f) l s e = rw e (refused-most x f (s .0) (s .1 .field-most))
+    go (Refused x f) l s e = rw e (refused-most textNumberMost (omega arith) x f (s .0) (s .1 .field-most))
     go (Sheet c) l s d = rw (d .listed) (laid-out-most c l (lent c) (d .after) (s .0) (s .1) (s .2) (d .answer) (d .promise))

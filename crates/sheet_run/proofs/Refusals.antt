@@ -28,9 +28,16 @@ use Rattle.text_rows.proofs.BadLines.{no-field, taken-told}
 use Rattle.text_reading.specs.Texts.{Typed, nothingTyped, add, earlierOf, Outcome, bad-line, sheet, follow, readFrom}
 use Rattle.text_reading.specs.Texts.{outcome, Lists, Done, roomFor, filled, refusedWith, countsOf, settled, judged, reading, textMost}
 
--- a refusal whose number and place are small
-abbrev pub Small : Refusal → Type 0
-Small r = (r .number ≤ 15) × (r .place ≤ textMost)
+-- a refusal whose number is at most this, and whose place is small
+abbrev pub Small : (most : ℕ) → Refusal → Type 0
+Small most r = (r .number ≤ most) × (r .place ≤ textMost)
+
+-- the largest number of a text, and of a sheet
+abbrev pub textNumberMost : ℕ
+textNumberMost = 15
+
+abbrev pub sheetNumberMost : ℕ
+sheetNumberMost = 9
 
 -- ---- a text
 
@@ -67,14 +74,14 @@ line-below (l ∷ ls) n t most h = go (taken (earlierOf t) l) (taken-told (earli
 
 -- a reading is a small refusal, or a sheet within the limits of document 01 whose labels stand in the list
 abbrev pub SmallReading : Reading → Lists → Type 0
-SmallReading (Refused r field) l = Small r × FieldTold (r .number) field
+SmallReading (Refused r field) l = Small textNumberMost r × FieldTold (r .number) field
 SmallReading (Sheet c) l = (c .labels ≤ 48) × (c .gaps ≤ 192) × (c .labels ≤ length (l .wanted))
 
 abbrev SmallDone : Done → Type 0
 SmallDone d = SmallReading (d .answer) (d .lists)
 
 -- one of the whole text, which names no field
-small : (number : ℕ) → number ≤ 12 → ((number ≤ 15) × (0 ≤ textMost)) × FieldTold number noField
+small : (number : ℕ) → number ≤ 12 → ((number ≤ textNumberMost) × (0 ≤ textMost)) × FieldTold number noField
 small number h = ((omega arith, omega arith), no-field number h)
 
 labels-filled : (t : Typed) (b : Lists) → length (t .labels) ≤ length (filled t b .wanted)
@@ -108,21 +115,21 @@ small-reading text b = go (ltb textMost (length text)) refl
 
 -- ---- a sheet
 
-small-table : (r : Read) (w : Written) → labelCount r ≤ textMost → gapCount r ≤ textMost → Told Small (table r w)
+small-table : (r : Read) (w : Written) → labelCount r ≤ textMost → gapCount r ≤ textMost → Told (Small sheetNumberMost) (table r w)
 small-table r w l g =
-    table-told Small (labelCount r) (gapCount r) (ragged r (length (w .carried))) (short (labelCount r) (gapCount r) (roomOf w)) (rows r)
+    table-told (Small sheetNumberMost) (labelCount r) (gapCount r) (ragged r (length (w .carried))) (short (labelCount r) (gapCount r) (roomOf w)) (rows r)
     ((omega arith, omega arith), (omega arith, omega arith), (omega arith, omega arith), (omega arith, omega arith))
     ((λ k h. (omega arith, omega arith)), ((λ k h. (omega arith, omega arith)), ((λ k h. (omega arith, omega arith)), ((λ k h. (omega arith, omega arith)), tt))))
 
 abbrev pub SmallAnswer : Answer → Type 0
 SmallAnswer answer.Placed = Unit {0}
-SmallAnswer (answer.Refused r) = Small r
+SmallAnswer (answer.Refused r) = Small sheetNumberMost r
 
 -- a layout call that keeps its promise refuses with a small number and place
 pub small-answer : (r : Read) (w : Written) (a : Answer) (after : Written) → labelCount r ≤ textMost → gapCount r ≤ textMost → Promise r w a after → SmallAnswer a
 small-answer r w a after l g p = go (table r w) (small-table r w l g) (p .kept)
   where
-    go : (v : Checked) → Told Small v → ByTable v (sheetOf r) w a after → SmallAnswer a
+    go : (v : Checked) → Told (Small sheetNumberMost) v → ByTable v (sheetOf r) w a after → SmallAnswer a
     go (checked.Refused q) s k = subst SmallAnswer (sym (k .0)) s
     go checked.Pass s k =
         ⊎-elim

@@ -18,7 +18,7 @@ use Rattle.text_reading.specs.Parts.{ReadInto}
 use Rattle.text_listing.specs.Listing.{Listable, Within, listing, listingRoom, refusedRecord}
 use Rattle.sheet_run.specs.Run.{LaidOut, PrintedFor, Run, zeroLists, lentOver, listableRead, zeros}
 use Rattle.sheet_run.specs.Steps.{Holds, Answered, Printed, PrintedRead}
-use Rattle.sheet_run.proofs.Refusals.{SmallReading, small-reading}
+use Rattle.sheet_run.proofs.Refusals.{SmallReading, small-reading, textNumberMost}
 use Rattle.sheet_run.proofs.Enough.{laid-out-most, refused-most, take-most}
 
 -- ---- the sheet that was read
@@ -62,7 +62,7 @@ module _ (text : List ℕ) (r : Reading) (l : Lists) (into : ReadInto text zeroL
   pub refusal-most : (x : Refusal) (field : ℕ) → r ≡ Refused x field → length (refusedRecord x field) ≤ listingRoom
   refusal-most x field e =
       let k : SmallReading (Refused x field) l = subst (λ (q : Reading). SmallReading q l) e small in
-      refused-most x field (k .0) (k .1 .field-most)
+      refused-most textNumberMost (omega arith) x field (k .0) (k .1 .field-most)
 
   pub within-limits : (c : Counts) → r ≡ Sheet c → SmallReading (Sheet c) l
   within-limits c e = subst (λ (q : Reading). SmallReading q l) e small

@@ -16,7 +16,7 @@ use Rattle.text_rows.specs.Taking.{noField}
 use Rattle.text_reading.specs.Texts.{countsOf, filled, reading, roomFor}
 use Rattle.text_reading.proofs.Examples.{document-text, mixed-text, crossing-text}
 use Rattle.text_reading.proofs.WrongReadings.{zero-text, zero-sheet, zero-typed}
-use Rattle.text_listing.specs.Listing.{listing, placeRecord, placeRecords, refusedRecord, shownField}
+use Rattle.text_listing.specs.Listing.{listing, placeRecord, placeRecords, refusedRecord}
 use Rattle.text_listing.proofs.Samples.{first-record, second-record, slack-record}
 use Rattle.sheet_run.specs.Run.{LaidOut, Run, zeroLists, listableRead}
 use Rattle.sheet_run.proofs.PlacedRuns.{laid-out}
@@ -79,7 +79,7 @@ blank-counts-one r one =
 
 -- a weight of zero that is typed does not count ten: it is refused with 6, as a lent one is
 pub typed-zero-refused : {before after : List ℕ} {n : ℕ} → Run zero-text before n after → take n after ≡ bytes "refused,6,0,0\r\n"
-unfolding reading roomFor filled tableOf offenderBelow refusedRecord shownField digitsOf
+unfolding reading roomFor filled tableOf offenderBelow refusedRecord digitsOf
 typed-zero-refused {after = after} {n = n} r =
     laid .listed ∙ ap (λ (a : Answer). listing a noField (listableRead (countsOf zero-sheet) (filled zero-sheet zeroLists) (laid .after))) (refused-by-table (laid .promise) refl .0)
   where

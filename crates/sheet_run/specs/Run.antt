@@ -7,6 +7,7 @@ use lib.ListN.{take, replicate}
 use lib.IntN.{ℤ, pos}
 use Rattle.ground.specs.declared.Answer.{Answer}
 use Rattle.ground.specs.declared.Label.{Label}
+use Rattle.ground.specs.declared.Refusal.{Refusal}
 use Rattle.exact.specs.Nearest.{roundHalfUp}
 use Rattle.single_fractions.specs.Places.{withinPlaces}
 use Rattle.least_move.specs.Sheet.{label}
@@ -14,12 +15,14 @@ use Rattle.least_move.specs.WholeUnits.{Units, UnitsMeet}
 use Rattle.sheet_checks.specs.Lent.{Read, Written, labelCount, lists, placeOf, sheetOf}
 use Rattle.layout.specs.Promise.{Promise}
 use Rattle.ground.specs.Entries.{Filled}
-use Rattle.text_rows.specs.Taking.{noField}
+use Rattle.text_rows.specs.Lines.{recordOf}
+use Rattle.text_rows.specs.Numeral.{decimal}
+use Rattle.text_rows.specs.Taking.{FieldTold, noField}
 use Rattle.text_reading.specs.declared.Counts.{Counts}
 use Rattle.text_reading.specs.declared.Reading.{Reading}
 use Rattle.text_reading.specs.declared.Reading.the-variants.{Sheet, Refused}
 use Rattle.text_reading.specs.Texts.{Lists, reading}
-use Rattle.text_listing.specs.Listing.{Listable, gapsIn, labelsIn, listing, listingRoom, placeRecords, printedUnit, refusedRecord, slackRecords}
+use Rattle.text_listing.specs.Listing.{Listable, gapsIn, labelsIn, listing, listingRoom, placeRecords, printedUnit, refusedRecord, refusedWord, slackRecords}
 use Rattle.ground.specs.Limits.{gapsMost, labelsMost}
 
 -- so many zeros
@@ -63,8 +66,9 @@ listableRead c l after = record {
 }
 
 -- the listing of what a layout call that keeps its promise answers, lent w to write;
--- it "prints neither multipliers nor rings". For an accepted sheet the slack printed for a gap is that of its places, and
--- none is negative (`printed-slack`, `printed-held` in proofs/Slacks); of its whole units `UnitsShown` holds (proofs/Units).
+-- it "prints neither multipliers nor rings", and no field of a sheet that was read. For an accepted sheet the slack printed
+-- for a gap is that of its places, and none is negative (`printed-slack`, `printed-held` in proofs/Slacks); of its whole
+-- units `UnitsShown` holds (proofs/Units). Of a refused one `RefusedShown` holds (`sheet-refused` in proofs/RefusedRuns).
 pub record LaidFrom (w : Written) (c : Counts) (l : Lists) (printed : List ℕ) : Type 0 where
   pub answer : Answer
   pub after : Written
@@ -88,12 +92,19 @@ pub record UnitsShown (c : Counts) (l : Lists) (after : Written) (printed : List
   pub units : (i : Label) → i .0 < labelCount (sheetRead c l) → unitsPrinted c l after i ≡ roundHalfUp (placeOf after i .num) (placeOf after i .den)
   pub meets : UnitsMeet (sheetOf (sheetRead c l)) (unitsPrinted c l after)
 
+-- document 02, Item 5, of what is printed for a refused text or sheet: a record of four fields, the last "for 13 to 15 the bad
+-- field counted from 1, else 0"
+pub record RefusedShown (r : Refusal) (field : ℕ) (printed : List ℕ) : Type 0 where
+  pub shown : printed ≡ recordOf refusedWord (decimal (r .number)) (decimal (r .place)) (decimal field)
+  pub told : FieldTold (r .number) field
+
 -- "The program starts from a carried record of zeros". No byte that is printed can show it: from any other record of
 -- that length, and whatever buffers of these sizes held, the same is printed (`start-unseen` in proofs/Decided).
 abbrev pub LaidOut : Counts → Lists → List ℕ → Type 0
 LaidOut c l printed = LaidFrom (lent c) c l printed
 
--- what is printed for a reading: "A refused sheet prints only: refused, number, place" and the field
+-- what is printed for a reading: "A refused sheet prints only: refused, number, place" and the field. `RefusedShown` holds
+-- of it (`text-refused` in proofs/RefusedRuns).
 abbrev pub PrintedFor : Reading → Lists → List ℕ → Type 0
 PrintedFor (Refused r field) l printed = printed ≡ refusedRecord r field
 PrintedFor (Sheet c) l printed = LaidOut c l printed

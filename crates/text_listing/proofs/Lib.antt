@@ -1,7 +1,6 @@
 pub mod Appending
 pub mod PrintedSlack
 pub mod SlackSize
-pub mod ShownField
 pub mod Size
 pub mod Laying
 pub mod Samples

@@ -13,7 +13,7 @@ use Rattle.single_fractions.specs.Slack.{slackAnswer}
 use Rattle.text_rows.specs.Bytes.{bytes}
 use Rattle.text_rows.specs.Numeral.{digitsOf}
 use Rattle.text_rows.specs.Taking.{noField}
-use Rattle.text_listing.specs.Listing.{Listable, unitOf, placeRecord, placeRecords, printedSlack, slackRecord, slackRecords, refusedRecord, shownField, listing}
+use Rattle.text_listing.specs.Listing.{Listable, unitOf, placeRecord, placeRecords, printedSlack, slackRecord, slackRecords, refusedRecord, listing}
 
 -- the records of the document's run
 abbrev pub first-record : List ℕ
@@ -95,7 +95,7 @@ none = record { place-num = []; place-den = []; left = []; right = []; distance 
 
 -- a ring is refused with 9
 pub ring-listed : listing (Refused (record { number = 9; place = 0; ring = 2 })) noField none ≡ bytes "refused,9,0,0\r\n"
-unfolding refusedRecord shownField digitsOf
+unfolding refusedRecord digitsOf
 ring-listed = refl
 
 -- "a sheet of no labels .. prints nothing"

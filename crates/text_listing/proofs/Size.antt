@@ -23,9 +23,8 @@ use Rattle.ground.specs.Entries.{int}
 use Rattle.ground.specs.Limits.{labelsMost, gapsMost, placeNumMost}
 use Rattle.text_rows.specs.Numeral.{decimal, signedDecimal}
 use Rattle.text_listing.specs.Listing.{placeRoom, slackRoom, refusedRoom, listingRoom, unitAt, unitOf, placeRecord, placeRecords, refusedRecord, listing}
-use Rattle.text_listing.specs.Listing.{Listable, Within, labelsIn, gapsIn, printedSlack, printedUnit, shownField, slackRecord, slackRecords, sheetRecords}
+use Rattle.text_listing.specs.Listing.{Listable, Within, labelsIn, gapsIn, printedSlack, printedUnit, slackRecord, slackRecords, sheetRecords}
 use Rattle.text_rows.proofs.Decimal.{length-decimal, length-signed, length-signed-64}
-use Rattle.text_listing.proofs.ShownField.{shown-most}
 use Rattle.text_listing.proofs.SlackSize.{FractionFits, printed-fits}
 
 -- ---- the whole unit
@@ -100,17 +99,13 @@ length-slack-records (suc n) l h =
       length-slack-record n (printedSlack l n) (omega arith) (printed-fits l n),
     )
 
--- the field that is shown is of 64 bits, as the one told is
-pub length-field : (number field : ℕ) → Fits w64 field → length (decimal (shownField number field)) ≤ 20
-length-field number field f = length-decimal-64 (shownField number field) (record { fits = omega (arith, shown-most number field, f .fits) })
-
 pub length-refused-record :
     (r : Refusal) (field : ℕ) → Fits w64 (r .number) → Fits w64 (r .place) → Fits w64 field
     → length (refusedRecord r field) ≤ refusedRoom
 unfolding refusedRecord
 length-refused-record r field fn fp ff =
     simp length-append
-    (omega (arith, length-decimal-64 (r .number) fn, length-decimal-64 (r .place) fp, length-field (r .number) field ff))
+    (omega (arith, length-decimal-64 (r .number) fn, length-decimal-64 (r .place) fp, length-decimal-64 field ff))
 
 -- ---- the largest listing
 

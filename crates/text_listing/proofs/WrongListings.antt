@@ -19,7 +19,7 @@ use Rattle.text_rows.specs.Bytes.{bytes}
 use Rattle.text_rows.specs.Numeral.{digitsOf}
 use Rattle.text_rows.specs.Taking.{noField}
 use Rattle.text_listing.specs.declared.Listed.the-variants.{Written}
-use Rattle.text_listing.specs.Listing.{unitOf, placeRecord, placeRecords, printedSlack, refusedRecord, shownField, slackRecord, slackRecords}
+use Rattle.text_listing.specs.Listing.{unitOf, placeRecord, placeRecords, printedSlack, refusedRecord, slackRecord, slackRecords}
 use Rattle.text_listing.specs.Listing.{Listable, listing, listedAs, notListed, listedIn}
 use Rattle.text_listing.proofs.Samples.{first-record, second-record, slack-record, run}
 
@@ -119,35 +119,26 @@ abbrev ring : Refusal
 ring = record { number = 9; place = 0; ring = 2 }
 
 pub slip-listed : refusedRecord slip 4 ≡ bytes "refused,14,31,4\r\n"
-unfolding refusedRecord shownField digitsOf
+unfolding refusedRecord digitsOf
 slip-listed = refl
 
 -- there are four fields, as of a bad field, so without one
 pub three-fields : refusedRecord slip 4 ≢ bytes "refused,14,31\r\n"
-unfolding refusedRecord shownField digitsOf
+unfolding refusedRecord digitsOf
 three-fields = longer (λ e. omega arith)
 
 pub ring-three-fields : refusedRecord ring noField ≢ bytes "refused,9,0\r\n"
-unfolding refusedRecord shownField digitsOf
+unfolding refusedRecord digitsOf
 ring-three-fields = longer (λ e. omega arith)
 
--- no number but 13 to 15 shows a field: a ring's length that is told for one is not printed
-pub length-for-field : refusedRecord ring 2 ≡ bytes "refused,9,0,0\r\n"
-unfolding refusedRecord shownField digitsOf
-length-for-field = refl
+-- the field does not stand before the line, nor the ring's length for the field
+pub field-before-line : refusedRecord slip 4 ≢ bytes "refused,14,4,31\r\n"
+unfolding refusedRecord digitsOf
+field-before-line = differ 11 (λ e. omega arith)
 
-pub count-field : refusedRecord (record { number = 10; place = 31; ring = 0 }) 4 ≡ bytes "refused,10,31,0\r\n"
-unfolding refusedRecord shownField digitsOf
-count-field = refl
-
--- 13 and 15 do
-pub kind-field : refusedRecord (record { number = 13; place = 50; ring = 0 }) 1 ≡ bytes "refused,13,50,1\r\n"
-unfolding refusedRecord shownField digitsOf
-kind-field = refl
-
-pub turn-field : refusedRecord (record { number = 15; place = 2; ring = 0 }) 2 ≡ bytes "refused,15,2,2\r\n"
-unfolding refusedRecord shownField digitsOf
-turn-field = refl
+pub length-for-field : refusedRecord ring noField ≢ bytes "refused,9,0,2\r\n"
+unfolding refusedRecord digitsOf
+length-for-field = differ 12 (λ e. omega arith)
 
 -- ---- what is refused
 

@@ -22,7 +22,6 @@ use Rattle.text_listing.specs.declared.Listed.the-variants as listed
 use Rattle.text_rows.specs.Bytes.{bytes}
 use Rattle.text_rows.specs.Lines.{next, recordEnd, recordOf}
 use Rattle.text_rows.specs.Numeral.{decimal, signedDecimal}
-use Rattle.text_rows.specs.Taking.{noField}
 use Rattle.ground.specs.Answers.{refusedAt}
 use Rattle.ground.specs.Entries.{nat, int}
 use Rattle.ground.specs.Limits.{labelsMost, gapsMost}
@@ -127,13 +126,10 @@ slackRecords (suc n) l = slackRecords n l ++ slackRecord n (printedSlack l n)
 abbrev pub sheetRecords : Listable → List ℕ
 sheetRecords l = placeRecords (labelsIn l) (l .place-num) (l .place-den) (printedUnit l) ++ slackRecords (gapsIn l) l
 
--- "for 13 to 15 the bad field counted from 1, else 0" (document 02, Item 5), whatever is told with another number
-unfoldable pub shownField : (number field : ℕ) → ℕ
-shownField number field = cond (leb 13 number && leb number 15) field noField
-
--- "A refused sheet prints only: refused, number, place"; "The refused record gains a fourth field"
+-- "A refused sheet prints only: refused, number, place"; "The refused record gains a fourth field" (document 02, Item 5), the
+-- one that is told
 unfoldable pub refusedRecord : Refusal → (field : ℕ) → List ℕ
-refusedRecord r field = recordOf refusedWord (decimal (r .number)) (decimal (r .place)) (decimal (shownField (r .number) field))
+refusedRecord r field = recordOf refusedWord (decimal (r .number)) (decimal (r .place)) (decimal field)
 
 -- the listing of an answer, and for a refused text of its field
 abbrev pub listing : Answer → (field : ℕ) → Listable → List ℕ

@@ -14,7 +14,6 @@ use ground::limits::GAPS;
 use ground::limits::LABELS;
 use single_fractions::Ties;
 use single_fractions::round::round;
-use text_rows::NO_FIELD;
 ghost use mathlib.Core.Path.{_≡_};
 ghost use Prim.Native.Nat.{_+_, _*_, _<_, _≤_};
 ghost use lib.ListN.{length};
@@ -24,14 +23,9 @@ ghost use Rattle.text_rows.specs.Lines.{recordEnd};
 ghost use Rattle.text_rows.specs.Taking.{noField};
 ghost use Rattle.text_listing.specs.Listing.{placeRoom, refusedRoom, listingRoom, laid, listedAs, listedIn, refusal};
 ghost use Rattle.text_listing.specs.Listing.{Within, even, listableLent, listableNow};
-ghost use Rattle.text_listing.specs.Listing.{placeRecord, placeRecords, refusedRecord, sheetRecords, shownField, unitAt, unitOf};
+ghost use Rattle.text_listing.specs.Listing.{placeRecord, placeRecords, refusedRecord, sheetRecords, unitAt, unitOf};
 ghost use Rattle.ground.specs.Limits.{labelsMost};
 ghost use Rattle.ground.specs.Views.{after, before};
-
-// The refusals of a bad field: the first field, a number, a label's number out of turn.
-const BAD_FIELD_FIRST: usize = 13;
-
-const BAD_FIELD_LAST: usize = 15;
 
 // Puts the end of a record.
 pub(crate) fn put_end(buf: &mut [u8], at: usize) -> usize
@@ -83,29 +77,15 @@ fn put_places(buf: &mut [u8], place_num: &[i64], place_den: &[i64]) -> usize
     at
 }
 
-// The field that a refused record shows: that of a bad field, and none with any other number.
-fn shown_field(number: usize, field: usize) -> usize
-    ensures { λ r. ⌜ r ≡ shownField number field ⌝ }
-{
-    if number < BAD_FIELD_FIRST {
-        return NO_FIELD;
-    }
-    if BAD_FIELD_LAST < number {
-        return NO_FIELD;
-    }
-    field
-}
-
-// Puts the record of a refused sheet.
+// Puts the record of a refused sheet, with the field as it is told.
 fn put_refused(buf: &mut [u8], refusal: Refusal, field: usize) -> usize
     requires { ⌜ refusedRoom ≤ length (now buf) ⌝ }
     ensures { λ r. ⌜ Appended (before buf) 0 (refusedRecord refusal field) (after buf) r ⌝ }
 {
-    let shown = shown_field(refusal.number, field);
     let word = put_word(buf, 0, b"refused");
     let first = put_number_field(buf, word, refusal.number as u64);
     let second = put_number_field(buf, first, refusal.place as u64);
-    let third = put_number_field(buf, second, shown as u64);
+    let third = put_number_field(buf, second, field as u64);
     put_end(buf, third)
 }
 

@@ -87,7 +87,7 @@ unfolding rowOf
 taken-told earlier line =
     let fs = fields line in
     cond-told (eqb (length fs) 4) _ _
-    (cond-told (same (fieldAt fs 0) labelWord) _ _
-    (label-told earlier (fieldAt fs 1) (fieldAt fs 2) (fieldAt fs 3))
-    (cond-told (same (fieldAt fs 0) gapWord) _ _ (gap-told (fieldAt fs 1) (fieldAt fs 2) (fieldAt fs 3)) kind-told))
+    (cond-told (same (fieldAt fs 1) labelWord) _ _
+    (label-told earlier (fieldAt fs 2) (fieldAt fs 3) (fieldAt fs 4))
+    (cond-told (same (fieldAt fs 1) gapWord) _ _ (gap-told (fieldAt fs 2) (fieldAt fs 3) (fieldAt fs 4)) kind-told))
     (no-field 10 (omega arith))

@@ -1,5 +1,5 @@
 -- A line taken apart as label or gap (document 01, "Sheet text"; document 02, Item 5).
-use Prim.Native.Nat.{ℕ, _≤_, _<_}
+use Prim.Native.Nat.{ℕ, zero, suc, _≤_, _<_}
 use mathlib.Core.Path.{_≡_}
 use mathlib.Core.Bool.{Bool, true, false, cond, _&&_}
 use mathlib.Core.List.{List, [], _∷_}
@@ -59,16 +59,17 @@ gapRow u v g =
     given 2 (number u) (λ l. given 3 (number v) (λ r. given 4 (signed g) (λ z.
     Good (Gap (record { left = l; right = r; distance = z })))))
 
--- a field of a line
+-- a field of a line, counted from 1
 abbrev pub fieldAt : List (List ℕ) → ℕ → List ℕ
-fieldAt fs k = getD fs k []
+fieldAt fs zero = []
+fieldAt fs (suc k) = getD fs k []
 
 -- "10 is left for a line without four fields. A first field that is neither kind is 13": 10, then 13, then the rest
 unfoldable pub rowOf : Earlier → List (List ℕ) → Taken
 rowOf earlier fs =
     cond (eqb (length fs) 4)
-    (cond (same (fieldAt fs 0) labelWord) (labelRow earlier (fieldAt fs 1) (fieldAt fs 2) (fieldAt fs 3))
-    (cond (same (fieldAt fs 0) gapWord) (gapRow (fieldAt fs 1) (fieldAt fs 2) (fieldAt fs 3)) (Bad 13 1)))
+    (cond (same (fieldAt fs 1) labelWord) (labelRow earlier (fieldAt fs 2) (fieldAt fs 3) (fieldAt fs 4))
+    (cond (same (fieldAt fs 1) gapWord) (gapRow (fieldAt fs 2) (fieldAt fs 3) (fieldAt fs 4)) (Bad 13 1)))
     (Bad 10 noField)
 
 -- a line after those before it

@@ -1,5 +1,6 @@
 //! Programs in C are compiled with the header and the static library and run: the example on texts, and the calls over
 //! single fractions.
+use crate::sheet::file;
 use std::fs::File;
 use std::io::Write;
 use std::path::{Path, PathBuf};
@@ -60,7 +61,7 @@ fn runs() {
         "place,0,0,1,0\r\nplace,1,9,1,9\r\nslack,0,3,1\r\nslack,1,0,1\r\n"
     );
     let ring = b"label,0,0,\nlabel,1,0,\ngap,0,1,5\ngap,1,0,-4\n";
-    assert_eq!(printed(&program, ring), "refused,9,0\r\n");
+    assert_eq!(printed(&program, ring), "refused,9,0,0\r\n");
     let mixed = b"label,0,0,\nlabel,1,11,1\ngap,0,1,22\n";
     assert_eq!(
         printed(&program, mixed),
@@ -71,11 +72,27 @@ fn runs() {
         printed(&program, crossing),
         "place,0,1,2,1\r\nplace,1,-1,2,0\r\nslack,0,0,1\r\n"
     );
-    assert_eq!(printed(&program, b"label,0,0,0"), "refused,6,0\r\n");
-    assert_eq!(printed(&program, b"label,0,0,1\n\n"), "refused,10,2\r\n");
-    assert_eq!(printed(&program, &[b'\n'; 16_385]), "refused,11,0\r\n");
+    assert_eq!(printed(&program, b"label,0,0,0"), "refused,6,0,0\r\n");
     assert_eq!(printed(&program, b""), "");
+    bad_texts(&program);
     fails(&program);
+}
+
+/// Document 02, Item 5: the line and its bad field.
+fn bad_texts(program: &Path) {
+    for (text, record) in [
+        (&b"label,0,0,1\n\n"[..], "refused,10,2,0\r\n"),
+        (b"label,0,0,1\nGap,0,0,1\n", "refused,13,2,1\r\n"),
+        (b"label,-0,0,1\n", "refused,14,1,2\r\n"),
+        (b"label,0,+5,1\n", "refused,14,1,3\r\n"),
+        (b"label,7,0,x\n", "refused,14,1,4\r\n"),
+        (b"label,0,0,1\nlabel,5,0,1\nx", "refused,15,2,2\r\n"),
+        (&[b'\n'; 16_385], "refused,11,0,0\r\n"),
+    ] {
+        assert_eq!(printed(program, text), record);
+    }
+    let slip = file("typing-slip.csv");
+    assert_eq!(printed(program, &slip), "refused,14,5,4\r\n");
 }
 
 /// A directory cannot be read, and a full device takes no listing.

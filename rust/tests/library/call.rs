@@ -93,10 +93,10 @@ impl Lent {
         }
     }
 
-    /// What the library prints for an answer.
-    pub fn printed(&self, answer: Answer, sheet: &Sheet) -> Vec<u8> {
+    /// What the library prints for an answer with a field.
+    pub fn printed(&self, answer: Answer, field: u64, sheet: &Sheet) -> Vec<u8> {
         let mut text = vec![0; 24_576];
-        let listed = write_listing(answer, &self.listable(sheet), &mut text);
+        let listed = write_listing(answer, field, &self.listable(sheet), &mut text);
         let Listed::Written(bytes) = listed else {
             panic!("{listed:?}");
         };
@@ -107,7 +107,7 @@ impl Lent {
     /// What the library prints for an accepted sheet, taken apart. The whole units are those of the places, halves to
     /// the larger number, and meet every gap.
     pub fn records(&self, sheet: &Sheet) -> Records {
-        let records = Records::of(&self.printed(Answer::Placed, sheet), sheet);
+        let records = Records::of(&self.printed(Answer::Placed, 0, sheet), sheet);
         assert_eq!(records.units, units_of(&records.places, half_up));
         confirm_units(sheet, &records.units).expect("whole units");
         records

@@ -26,3 +26,4 @@ mod slack;
 mod stack;
 mod station;
 mod text;
+mod words;

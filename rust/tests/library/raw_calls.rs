@@ -125,11 +125,23 @@ fn read(text: &[u8], out: &mut [u64]) -> u64 {
     }
 }
 
+/// A sheet tells its counts of labels and gaps, a refused text its place and its field.
 #[test]
 fn read_tells_what_fits() {
-    let sheet = (&b"label,0,7,\ngap,0,0,0\n"[..], 0, [1, 1]);
-    let bad_line = (&b"gap,0,0,0\ngap,0,0\n"[..], 10, [2, 0]);
-    for (text, number, told) in [sheet, bad_line, (&b""[..], 0, [0, 0])] {
+    for (text, number, told) in [
+        (&b"label,0,7,\ngap,0,0,0\n"[..], 0, [1, 1]),
+        (b"", 0, [0, 0]),
+        (b"gap,0,0,0\ngap,0,0\n", 10, [2, 0]),
+        (b"gap,0,0,0\n\ngap,0,0,0\n", 10, [2, 0]),
+        (b"Gap,0,0,0\n", 13, [1, 1]),
+        (b"gap,0,0,0\nlabel,x,0,1\n", 14, [2, 2]),
+        (b"label,0,7,\ngap,0,-1,0\n", 14, [2, 3]),
+        (b"label,0,7,\ngap,0,0,0\nlabel,7,0,x\n", 14, [3, 4]),
+        (b"gap,0,0,0\ngap,0,0,0\nlabel,1,0,1\n", 15, [3, 2]),
+        (b"gap,0,0,0\ngap,0,0,0\n", 4, [0, 0]),
+        (&b"gap,0,0,0\n".repeat(193), 2, [0, 0]),
+        (&[b'x'; 16_385], 11, [0, 0]),
+    ] {
         for entries in 0..4 {
             let mut out = vec![77; entries];
             let mut expected = out.clone();
@@ -139,14 +151,16 @@ fn read_tells_what_fits() {
     }
 }
 
-/// Lists a label at 1/2 with a gap to itself.
-fn listing(number: u64, place: u64, text: &mut [u8], out: &mut [u64]) -> u64 {
+/// Lists a label at 1/2 with a gap to itself, or a refusal: its number, its place and its field.
+fn listing(answer: [u64; 3], text: &mut [u8], out: &mut [u64]) -> u64 {
+    let [number, place, field] = answer;
     let (num, den, end, distance) = ([1i64], [2i64], [0u64], [-4i64]);
     // SAFETY: each pointer is that of a list of the length given.
     unsafe {
         raw::dirmoog_listing(
             number,
             place,
+            field,
             num.as_ptr(),
             1,
             den.as_ptr(),
@@ -167,13 +181,24 @@ fn listing(number: u64, place: u64, text: &mut [u8], out: &mut [u64]) -> u64 {
 
 #[test]
 fn listing_tells_what_fits() {
-    let (placed, ring) = (b"place,0,1,2,1\r\nslack,0,4,1\r\n", b"refused,9,0\r\n");
-    // placed whatever the place is, a refusal, and buffers that are too short
-    for (number, place, room, told, text) in [
-        (0, 5, 30, (0, 28), &placed[..]),
-        (9, 0, 30, (0, 13), &ring[..]),
-        (0, 5, 27, (4, 0), b""),
-        (9, 0, 12, (4, 0), b""),
+    let (placed, ring) = (b"place,0,1,2,1\r\nslack,0,4,1\r\n", b"refused,9,0,0\r\n");
+    // placed whatever place and field are, refusals with the field as it is told, and buffers that are too short
+    for (answer, room, told, text) in [
+        ([0, 5, 4], 30, (0, 28), &placed[..]),
+        ([9, 0, 0], 30, (0, 15), &ring[..]),
+        ([10, 31, 0], 30, (0, 17), b"refused,10,31,0\r\n"),
+        ([13, 1, 1], 30, (0, 16), b"refused,13,1,1\r\n"),
+        ([14, 31, 4], 30, (0, 17), b"refused,14,31,4\r\n"),
+        (
+            [15, 2, 1 << 63],
+            34,
+            (0, 34),
+            b"refused,15,2,9223372036854775808\r\n",
+        ),
+        ([16, 31, 7], 30, (0, 17), b"refused,16,31,7\r\n"),
+        ([0, 5, 4], 27, (4, 0), b""),
+        ([9, 0, 2], 14, (4, 0), b""),
+        ([14, 31, 4], 16, (4, 0), b""),
     ] {
         for entries in 0..3 {
             let (mut written, mut out) = (vec![77u8; room], vec![77u64; entries]);
@@ -182,8 +207,8 @@ fn listing_tells_what_fits() {
                 .iter_mut()
                 .take(1)
                 .for_each(|first| *first = told.1);
-            let answer = listing(number, place, &mut written, &mut out);
-            assert_eq!((answer, out), (told.0, expected));
+            let number = listing(answer, &mut written, &mut out);
+            assert_eq!((number, out), (told.0, expected));
             assert_eq!(written[..text.len()], *text);
             assert!(written[text.len()..].iter().all(|&byte| byte == 77));
         }
@@ -205,11 +230,11 @@ fn refused_listing_tells_what_fits() {
         let (left, right) = (vec![0u64; lefts], vec![0u64; rights]);
         for entries in 0..3 {
             let (mut text, mut out) = ([77u8; 9], vec![77u64; entries]);
-            let mut expected = out.clone();
-            expected.iter_mut().take(1).for_each(|first| *first = 0);
+            let expected = [0, 77, 77][..entries].to_vec();
             // SAFETY: each pointer is that of a list of the length given.
             let answer = unsafe {
                 raw::dirmoog_listing(
+                    0,
                     0,
                     0,
                     num.as_ptr(),

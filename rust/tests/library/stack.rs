@@ -56,6 +56,11 @@ fn texts() {
     let counts = Counts { labels, gaps };
     let reading = on_little(|| read_sheet(text.as_bytes(), &mut lists));
     assert_eq!(reading, Reading::Sheet(counts));
+    text += "gap,0,47,-";
+    let reading = on_little(|| read_sheet(text.as_bytes(), &mut lists));
+    let told = reading.sheet().expect_err("a bad number");
+    assert_eq!((told.refusal.number, told.refusal.place), (14, 241));
+    assert_eq!(told.field, 4);
 }
 
 /// The most labels and gaps, the most digits, and slacks to be taken.
@@ -71,15 +76,15 @@ fn listings() {
         right: &[47; 192],
         distance: &[-20_000; 192],
     };
-    let expected = listing(Answer::Placed, &lists);
+    let expected = listing(Answer::Placed, 0, &lists);
     let mut text = vec![0; expected.len()];
-    let listed = on_little(|| write_listing(Answer::Placed, &lists, &mut text));
+    let listed = on_little(|| write_listing(Answer::Placed, 0, &lists, &mut text));
     assert_eq!(listed, Listed::Written(expected.len() as u64));
     assert_eq!(text, expected);
-    let mut text = [0; 64];
+    let mut text = [0; 80];
     let answer = refused_at(u64::MAX, u64::MAX);
-    let listed = on_little(|| write_listing(answer, &lists, &mut text));
-    assert_eq!(listed, Listed::Written(51));
+    let listed = on_little(|| write_listing(answer, u64::MAX, &lists, &mut text));
+    assert_eq!(listed, Listed::Written(72));
 }
 
 #[test]

@@ -93,6 +93,18 @@ fn crossing_labels_are_listed() {
     );
 }
 
+/// Document 02, Item 5: the line and its bad field; a ring has neither.
+#[test]
+fn bad_fields_are_told() {
+    fed(&[&file("typing-slip.csv")], "refused,14,5,4\r\n");
+    fed(&[b"label,0,0,1\r\nring,0,0,1\r\n"], "refused,13,2,1\r\n");
+    fed(
+        &[b"label,0,0,1\r\nlabel,5,0,1\r\nx\r\n"],
+        "refused,15,2,2\r\n",
+    );
+    fed(&[&file("ring.csv")], "refused,9,0,0\r\n");
+}
+
 #[test]
 fn a_short_read_is_no_end() {
     let (first, second) = SHEET.split_at(20);
@@ -103,8 +115,8 @@ fn a_short_read_is_no_end() {
 #[test]
 fn a_long_text_is_refused() {
     // as many bytes as a text may have, and one more
-    fed(&[&[b'\n'; 16_384]], "refused,10,1\r\n");
-    fed(&[&[b'\n'; 16_385]], "refused,11,0\r\n");
+    fed(&[&[b'\n'; 16_384]], "refused,10,1,0\r\n");
+    fed(&[&[b'\n'; 16_385]], "refused,11,0,0\r\n");
 }
 
 #[test]

@@ -76,10 +76,10 @@ fn refused(answer: Answer, lists: &Lists, needed: usize, room: usize) -> Option<
 }
 
 /// Checks the library's answer and the buffer afterwards, and gives the refusal's number, or 0.
-fn check(answer: Answer, lists: &Lists, before: &[u8]) -> u64 {
-    let text = listing(answer, &lists.lent());
+fn check(answer: Answer, field: u64, lists: &Lists, before: &[u8]) -> u64 {
+    let text = listing(answer, field, &lists.lent());
     let mut after = before.to_vec();
-    let listed = write_listing(answer, &lists.lent(), &mut after);
+    let listed = write_listing(answer, field, &lists.lent(), &mut after);
     match refused(answer, lists, text.len(), before.len()) {
         Some(number) => {
             let (place, ring) = (0, 0);
@@ -108,9 +108,9 @@ fn listed_as(lists: &Lists, records: &[&str]) {
         .iter()
         .map(|record| format!("{record}\r\n"))
         .collect();
-    let second = listing(Answer::Placed, &lists.lent());
+    let second = listing(Answer::Placed, 0, &lists.lent());
     assert_eq!(String::from_utf8_lossy(&second), text);
-    assert_eq!(check(Answer::Placed, lists, &[7; 1_000]), 0);
+    assert_eq!(check(Answer::Placed, 0, lists, &[7; 1_000]), 0);
 }
 
 fn any_number(random: &mut Random) -> i64 {
@@ -163,27 +163,40 @@ fn any_lists(random: &mut Random) -> Lists {
     lists
 }
 
+/// Any number and any place; half of the numbers are those that name a field, or next to them.
+fn any_refusal(random: &mut Random) -> Refusal {
+    let number = match random.below(2) {
+        0 => (random.next() >> random.below(64)).max(1),
+        _ => random.between(12, 16) as u64,
+    };
+    Refusal {
+        number,
+        place: random.next() >> random.below(64),
+        ring: random.next(),
+    }
+}
+
 #[test]
 fn generated_answers() {
     let mut random = Random::new(30_000_000);
-    let mut numbers = [0; 5];
+    let (mut numbers, mut fields) = ([0; 5], 0);
     for _ in 0..40_000 {
         let lists = any_lists(&mut random);
+        let field = random.next() >> random.below(64);
         let answer = match random.below(4) {
-            0 => Answer::Refused(Refusal {
-                number: (random.next() >> random.below(64)).max(1),
-                place: random.next() >> random.below(64),
-                ring: random.next(),
-            }),
+            0 => Answer::Refused(any_refusal(&mut random)),
             _ => Answer::Placed,
         };
-        let text = listing(answer, &lists.lent()).len();
-        let room = random.pick(&[0, text.saturating_sub(1), text, text + 1, text + 90]);
+        let needed = listing(answer, field, &lists.lent()).len();
+        let room = random.pick(&[0, needed.saturating_sub(1), needed, needed + 1, needed + 90]);
         let before: Vec<_> = (0..room).map(|_| random.next() as u8).collect();
-        numbers[check(answer, &lists, &before) as usize] += 1;
+        let number = check(answer, field, &lists, &before);
+        numbers[number as usize] += 1;
+        let shown = matches!(answer, Answer::Refused(_)) && field != 0;
+        fields += usize::from(shown && number == 0);
     }
-    println!("listings by number: {numbers:?}");
-    assert!(numbers.iter().all(|&count| count > 300));
+    println!("listings by number: {numbers:?}; {fields} show a field");
+    assert!(numbers.iter().all(|&count| count > 300) && fields > 1_000);
 }
 
 /// One record for each label, then one for each gap, both in the order of their numbers.
@@ -284,7 +297,7 @@ fn too_many() {
         (0, 193, 2),
     ] {
         let lists = Lists::zeros(labels, gaps);
-        assert_eq!(check(Answer::Placed, &lists, &room), number);
+        assert_eq!(check(Answer::Placed, 0, &lists, &room), number);
     }
 }
 
@@ -300,12 +313,12 @@ fn uneven_lists() {
             uneven[1].right.resize(other(gaps), 0);
             uneven[2].distance.resize(other(gaps), 0);
             for lists in uneven {
-                assert_eq!(check(Answer::Placed, &lists, &[7; 24_576]), number);
-                assert_eq!(check(Answer::Placed, &lists, &[]), number);
+                assert_eq!(check(Answer::Placed, 0, &lists, &[7; 24_576]), number);
+                assert_eq!(check(Answer::Placed, 0, &lists, &[]), number);
             }
         }
         let fits = if number == 3 { 0 } else { number };
-        assert_eq!(check(Answer::Placed, &even, &[7; 24_576]), fits);
+        assert_eq!(check(Answer::Placed, 0, &even, &[7; 24_576]), fits);
     }
 }
 
@@ -313,14 +326,18 @@ fn uneven_lists() {
 #[test]
 fn short_buffers() {
     let lists = Lists::of_a_run();
-    for answer in [Answer::Placed, refused_at(9, 0)] {
-        let needed = listing(answer, &lists.lent()).len();
+    for (answer, field) in [
+        (Answer::Placed, 0),
+        (refused_at(9, 0), 0),
+        (refused_at(14, 31), 4),
+    ] {
+        let needed = listing(answer, field, &lists.lent()).len();
         for room in 0..needed {
-            assert_eq!(check(answer, &lists, &vec![7; room]), 4);
+            assert_eq!(check(answer, field, &lists, &vec![7; room]), 4);
         }
-        assert_eq!(check(answer, &lists, &vec![7; needed]), 0);
+        assert_eq!(check(answer, field, &lists, &vec![7; needed]), 0);
     }
-    assert_eq!(check(Answer::Placed, &Lists::default(), &[]), 0);
+    assert_eq!(check(Answer::Placed, 0, &Lists::default(), &[]), 0);
 }
 
 /// A refusal is listed whatever the lists are.
@@ -330,11 +347,34 @@ fn refusals_ignore_the_lists() {
     lists.place_den.clear();
     lists.right.push(1);
     lists.distance.pop();
-    let mut text = [7; 14];
-    let listed = write_listing(refused_at(10, 3), &lists.lent(), &mut text);
-    assert_eq!(listed, Listed::Written(14));
-    assert_eq!(&text, b"refused,10,3\r\n");
-    assert_eq!(check(refused_at(u64::MAX, u64::MAX), &lists, &[7; 60]), 0);
+    let mut text = [7; 16];
+    let listed = write_listing(refused_at(10, 3), 0, &lists.lent(), &mut text);
+    assert_eq!(listed, Listed::Written(16));
+    assert_eq!(&text, b"refused,10,3,0\r\n");
+    for (number, needed) in [(u64::MAX, 72), (15, 54)] {
+        let (answer, field) = (refused_at(number, u64::MAX), u64::MAX);
+        assert_eq!(check(answer, field, &lists, &vec![7; needed - 1]), 4);
+        assert_eq!(check(answer, field, &lists, &vec![7; needed]), 0);
+    }
+}
+
+/// Document 02, Item 5: a refused record has a fourth field, the one that is told. A placed sheet shows none.
+#[test]
+fn fields_of_refusals() {
+    let lists = Lists::of_a_run();
+    for field in [0, 1, 2, 4, 5, 77, u64::MAX] {
+        for number in [1, 4, 5, 9, 10, 11, 12, 13, 14, 15, 16, 17, 113, u64::MAX] {
+            let record = format!("refused,{number},31,{field}\r\n");
+            let second = listing(refused_at(number, 31), field, &lists.lent());
+            assert_eq!(String::from_utf8_lossy(&second), record);
+            assert_eq!(check(refused_at(number, 31), field, &lists, &[7; 60]), 0);
+        }
+        assert_eq!(
+            listing(Answer::Placed, field, &lists.lent()),
+            listing(Answer::Placed, 0, &lists.lent())
+        );
+        assert_eq!(check(Answer::Placed, field, &lists, &[7; 90]), 0);
+    }
 }
 
 /// The room that the header names is enough for every listing: for the longest places, and for the longest slacks.
@@ -344,12 +384,12 @@ fn longest_listings() {
     let mut places = Lists::default();
     (0..48).for_each(|_| places.place(i64::MIN, i64::MIN));
     (0..192).for_each(|_| places.gap(u64::MAX, u64::MAX, i64::MIN));
-    assert_eq!(check(Answer::Placed, &places, &room), 0);
+    assert_eq!(check(Answer::Placed, 0, &places, &room), 0);
     let mut slacks = Lists::default();
     (0..24).for_each(|_| slacks.place(5_472_000_000, 4_799));
     (0..24).for_each(|_| slacks.place(-5_471_999_999, 4_800));
     (0..192).for_each(|_| slacks.gap(0, 47, 20_000));
-    assert_eq!(check(Answer::Placed, &slacks, &room), 0);
+    assert_eq!(check(Answer::Placed, 0, &slacks, &room), 0);
     let last = b"slack,191,-52986431995201,23035200\r\n";
-    assert!(listing(Answer::Placed, &slacks.lent()).ends_with(last));
+    assert!(listing(Answer::Placed, 0, &slacks.lent()).ends_with(last));
 }

@@ -1,11 +1,11 @@
 //! The library's reader beside the second one.
 use super::reader::{read, Refused};
-use super::typed::{damage, typed};
+use super::typed::{damage, misplaced, slipped, typed, Slipped};
 use crate::generate::{sheet, BLANK_WEIGHT, KINDS};
 use crate::generated::Case;
 use crate::random::Random;
 use crate::sheet::Sheet;
-use dirmoog::{read_sheet, Counts, Lists, Reading, Refusal};
+use dirmoog::{read_sheet, Counts, Lists, Reading, Refusal, TextRefusal};
 use std::collections::BTreeMap;
 
 /// Lists of arbitrary contents with these lengths.
@@ -39,16 +39,15 @@ fn filled<T: Copy>(read: &[T], before: &[T]) -> Vec<T> {
 
 /// What the second reader makes of a text and these lists: 4 where a list is too short.
 fn expected(text: &[u8], before: &Sheet) -> (Reading, Sheet) {
-    let refused = |(number, place): Refused| {
+    let refused = |(number, place, field): Refused| {
         let ring = 0;
-        (
-            Reading::Refused(Refusal {
-                number,
-                place,
-                ring,
-            }),
-            before.clone(),
-        )
+        let refusal = Refusal {
+            number,
+            place,
+            ring,
+        };
+        let answer = Reading::Refused(TextRefusal { refusal, field });
+        (answer, before.clone())
     };
     let sheet = match read(text) {
         Ok(sheet) => sheet,
@@ -60,7 +59,7 @@ fn expected(text: &[u8], before: &Sheet) -> (Reading, Sheet) {
         .zip(lengths(before))
         .any(|(&needed, there)| there < needed)
     {
-        return refused((4, 0));
+        return refused((4, 0, 0));
     }
     let counts = Counts {
         labels: sheet.labels() as u64,
@@ -88,16 +87,16 @@ pub fn read_into(text: &[u8], lists: &mut Sheet) -> Reading {
     read_sheet(text, &mut lent)
 }
 
-/// Checks the library's answer and every list afterwards, and gives the refusal's number, or 0.
-fn check(text: &[u8], before: &Sheet) -> u64 {
+/// Checks the library's answer and every list afterwards, and gives the refusal's number, place and field, or zeros.
+fn check(text: &[u8], before: &Sheet) -> Refused {
     let mut after = before.clone();
     let reading = read_into(text, &mut after);
     let (answer, lists) = expected(text, before);
     assert_eq!(reading, answer, "{}", text.escape_ascii());
     assert!(after == lists, "lists of {}", text.escape_ascii());
-    match reading {
-        Reading::Sheet(_) => 0,
-        Reading::Refused(refusal) => refusal.number,
+    match reading.sheet() {
+        Ok(_) => (0, 0, 0),
+        Err(TextRefusal { refusal, field }) => (refusal.number, refusal.place, field),
     }
 }
 
@@ -125,7 +124,8 @@ fn run(seed: u64, cases: u64, damages: usize) -> BTreeMap<u64, u64> {
             damage(&mut random, &mut text);
         }
         let lists = lists_for(&mut random, &sheet);
-        *numbers.entry(check(&text, &lists)).or_insert(0) += 1;
+        let (number, _, _) = check(&text, &lists);
+        *numbers.entry(number).or_insert(0) += 1;
     }
     println!("texts with {damages} damages, by number: {numbers:?}");
     numbers
@@ -140,9 +140,57 @@ fn good_texts() {
 #[test]
 fn damaged_texts() {
     let once = run(21_000_000, 60_000, 1);
-    assert!(once[&0] > 2_000 && once[&10] > 20_000);
+    assert!(once[&0] > 2_000);
     let thrice = run(22_000_000, 20_000, 3);
-    assert!(thrice[&10] > 10_000);
+    for number in [10, 13, 14] {
+        assert!(once[&number] > 5_000 && thrice[&number] > 2_000, "{number}");
+    }
+    assert!(once[&15] > 200 && thrice[&15] > 80);
+}
+
+/// Checks so many generated texts with slips: what must be answered is known from where the slips were made. Counts the
+/// answers by number and field, and those beyond the 48th label.
+fn run_slips(
+    seed: u64,
+    cases: u64,
+    slips: impl Fn(&mut Random, &Sheet) -> Slipped,
+) -> [BTreeMap<(u64, u64), u64>; 2] {
+    let mut counts = [BTreeMap::new(), BTreeMap::new()];
+    for seed in seed..seed + cases {
+        let _case = Case(seed);
+        let mut random = Random::new(seed);
+        let kind = random.pick(&KINDS);
+        let labels = random.pick(&[(1, 3), (1, 10), (11, 48), (49, 70)]);
+        let sheet = sheet(&mut random, kind, labels.0..=labels.1);
+        let Slipped { text, told, labels } = slips(&mut random, &sheet);
+        let lists = lists_for(&mut random, &sheet);
+        assert_eq!(check(&text, &lists), told, "{}", text.escape_ascii());
+        let (number, _, field) = told;
+        for count in &mut counts[..if labels < 48 { 1 } else { 2 }] {
+            *count.entry((number, field)).or_insert(0) += 1;
+        }
+    }
+    counts
+}
+
+#[test]
+fn slipped_texts() {
+    let [all, beyond] = run_slips(26_000_000, 60_000, slipped);
+    println!("texts with slips, by number and field: {all:?}");
+    println!("those beyond the 48th label: {beyond:?}");
+    for answer in [(10, 0), (13, 1), (14, 2), (14, 3), (14, 4), (15, 2)] {
+        assert!(all[&answer] > 4_000 && beyond[&answer] > 300, "{answer:?}");
+    }
+    assert!(all[&(11, 0)] > 1_000);
+}
+
+#[test]
+fn misplaced_labels() {
+    let [all, beyond] = run_slips(27_000_000, 10_000, misplaced);
+    println!(
+        "labels typed twice or left out, by number and field: {all:?}, beyond the 48th {beyond:?}"
+    );
+    assert!(all[&(15, 2)] == 10_000 && beyond[&(15, 2)] > 300);
 }
 
 /// Texts of so many labels and gaps, with room for all or none.
@@ -162,9 +210,9 @@ fn many_records() {
         let text = typed(&mut random, &sheet);
         let room = lengths(&sheet).map(|length| length + 1);
         let lists = any_lists(&mut random, room);
-        assert_eq!(check(&text, &lists), number);
+        assert_eq!(check(&text, &lists), (number, 0, 0));
         let short = if number == 0 && labels > 0 { 4 } else { number };
-        assert_eq!(check(&text, &Sheet::default()), short);
+        assert_eq!(check(&text, &Sheet::default()), (short, 0, 0));
     }
 }
 
@@ -174,53 +222,70 @@ fn longest_text() {
     let lists = any_lists(&mut Random::new(24_000_000), [1; 5]);
     let mut long = b"label,000000000,000000000,000000001\n".repeat(456);
     long.truncate(16_384);
-    assert_eq!(check(&long, &lists), 10);
+    assert_eq!(check(&long, &lists), (15, 2, 2));
     long.push(b'\n');
-    assert_eq!(check(&long, &lists), 11);
-    assert_eq!(check(&[0; 20_000], &lists), 11);
-    assert_eq!(check(&b"gap,0,0,00000\n".repeat(1_170), &lists), 2);
+    assert_eq!(check(&long, &lists), (11, 0, 0));
+    assert_eq!(check(&[0; 20_000], &lists), (11, 0, 0));
+    let gaps = b"gap,0,0,00000\n".repeat(1_170);
+    assert_eq!(check(&gaps, &lists), (2, 0, 0));
 }
 
-/// Single lines, each with what document 01, and for blank weights document 02, says of it.
+/// Texts without a bad line.
+const GOOD_LINES: [&[u8]; 9] = [
+    b"label,0,5,2",
+    b"label,0,-5,",
+    b"label,000,-000,1\r\n",
+    b"gap,7,9,-1\n",
+    b"",
+    b"gap,0,0,999999999",
+    b"label,0,-999999999,999999999\n",
+    b"gap,0,0,0\ngap,0,0,0",
+    b"gap,0,0,-0\r\ngap,0,0,0\n",
+];
+
+/// Texts whose first line is bad, each with what documents 01 and 02 say of it: the number and the field.
+const BAD_LINES: [(&[u8], u64, u64); 30] = [
+    (b"label,1,5,2", 15, 2),
+    (b"label,0,5", 10, 0),
+    (b"label,0,5,2,", 10, 0),
+    (b"label,0,,2", 14, 3),
+    (b"label,,5,2", 14, 2),
+    (b"Label,0,5,2", 13, 1),
+    (b"label ,0,5,2", 13, 1),
+    (b"label,0,5,-2", 14, 4),
+    (b"label,0,5, ", 14, 4),
+    (b"label,-0,5,2", 14, 2),
+    (b"gap,-1,0,0", 14, 2),
+    (b"gap,0,-0,0", 14, 3),
+    (b"gap,0,0,", 14, 4),
+    (b"gap,0,0,-", 14, 4),
+    (b"gap,0,0,+1", 14, 4),
+    (b"gap,0,0,--1", 14, 4),
+    (b"gap,0,0,1000000000", 14, 4),
+    (b"label,0,5,2\r", 14, 4),
+    (b"\"label\",0,5,2", 13, 1),
+    (b"\n", 10, 0),
+    (b"\r\n", 10, 0),
+    (b"\r", 10, 0),
+    (b"label,0,5\r,2\n", 14, 3),
+    // more than one thing is wrong
+    (b"x,y,z", 10, 0),
+    (b"x,,,,", 10, 0),
+    (b"x,,,", 13, 1),
+    (b"gap,,,", 14, 2),
+    (b"label,1,x,y", 14, 3),
+    (b"label,1,5,\0", 14, 4),
+    (b"label,0000000001,5,2", 14, 2),
+];
+
 #[test]
 fn single_lines() {
-    let good: [&[u8]; 9] = [
-        b"label,0,5,2",
-        b"label,0,-5,",
-        b"label,000,-000,1\r\n",
-        b"gap,7,9,-1\n",
-        b"",
-        b"gap,0,0,999999999",
-        b"label,0,-999999999,999999999\n",
-        b"gap,0,0,0\ngap,0,0,0",
-        b"gap,0,0,-0\r\ngap,0,0,0\n",
-    ];
-    let bad: [&[u8]; 21] = [
-        b"label,1,5,2",
-        b"label,0,5",
-        b"label,0,5,2,",
-        b"label,0,,2",
-        b"label,,5,2",
-        b"Label,0,5,2",
-        b"label ,0,5,2",
-        b"label,0,5,-2",
-        b"label,0,5, ",
-        b"label,-0,5,2",
-        b"gap,-1,0,0",
-        b"gap,0,0,",
-        b"gap,0,0,-",
-        b"gap,0,0,+1",
-        b"gap,0,0,--1",
-        b"gap,0,0,1000000000",
-        b"label,0,5,2\r",
-        b"\"label\",0,5,2",
-        b"\n",
-        b"\r\n",
-        b"label,0,5\r,2\n",
-    ];
     let lists = any_lists(&mut Random::new(25_000_000), [4; 5]);
-    good.iter()
-        .for_each(|text| assert_eq!(check(text, &lists), 0));
-    bad.iter()
-        .for_each(|text| assert_eq!(check(text, &lists), 10));
+    for text in GOOD_LINES {
+        assert_eq!(check(text, &lists), (0, 0, 0), "{}", text.escape_ascii());
+    }
+    for (text, number, field) in BAD_LINES {
+        let told = check(text, &lists);
+        assert_eq!(told, (number, 1, field), "{}", text.escape_ascii());
+    }
 }

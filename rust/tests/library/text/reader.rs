@@ -1,21 +1,24 @@
-//! A second reader of the sheet text, written from document 01 and document 02, Item 3, apart from the library's.
+//! A second reader of the sheet text, written from document 01 and document 02, Items 3 and 5, apart from the library's.
 use crate::sheet::Sheet;
 
-/// A refusal's number and place.
-pub type Refused = (u64, u64);
+/// A refusal's number, its place, and its field: for 13 to 15 the bad field of the line, counted from 1, else 0.
+pub type Refused = (u64, u64, u64);
 
-/// Reads a text: 11 for one that is too long, 10 and the line for one that breaks a rule, then 1 and 2.
+/// What is wrong with a line: the refusal's number and the bad field.
+type Wrong = (u64, u64);
+
+/// Reads a text: 11 for one that is too long, then the first bad line, then 1 and 2.
 pub fn read(text: &[u8]) -> Result<Sheet, Refused> {
     if text.len() > 16_384 {
-        return Err((11, 0));
+        return Err((11, 0, 0));
     }
     let mut sheet = Sheet::default();
-    for (number, line) in lines(text).into_iter().enumerate() {
-        add_record(&mut sheet, line).ok_or((10, number as u64 + 1))?;
+    for (line, place) in lines(text).into_iter().zip(1..) {
+        add_record(&mut sheet, line).map_err(|(number, field)| (number, place, field))?;
     }
     match (sheet.labels(), sheet.gaps()) {
-        (49.., _) => Err((1, 0)),
-        (_, 193..) => Err((2, 0)),
+        (49.., _) => Err((1, 0, 0)),
+        (_, 193..) => Err((2, 0, 0)),
         _ => Ok(sheet),
     }
 }
@@ -32,24 +35,31 @@ fn lines(text: &[u8]) -> Vec<&[u8]> {
     lines
 }
 
-/// Adds the record of a line to the sheet, or gives nothing where the line is bad.
-fn add_record(sheet: &mut Sheet, line: &[u8]) -> Option<()> {
+/// Adds the record of a line to the sheet. A bad line is 10 if it has not four fields, then 13 for its first field, 14 at
+/// the first number that breaks its rule, and 15 for a label's number that is not its turn.
+fn add_record(sheet: &mut Sheet, line: &[u8]) -> Result<(), Wrong> {
     let fields: Vec<&[u8]> = line.split(|&byte| byte == b',').collect();
     match fields[..] {
         [b"label", number, wanted, weight] => {
             let weight = if weight.is_empty() { b"10" } else { weight };
-            if unsigned(number)? != sheet.labels() as u64 {
-                return None;
+            let number = unsigned(number).ok_or((14, 2))?;
+            let wanted = signed(wanted).ok_or((14, 3))?;
+            let weight = unsigned(weight).ok_or((14, 4))?;
+            if number != sheet.labels() as u64 {
+                return Err((15, 2));
             }
-            sheet.label(signed(wanted)?, unsigned(weight)? as i64);
+            sheet.label(wanted, weight as i64);
         }
         [b"gap", left, right, distance] => {
-            let (left, right) = (unsigned(left)?, unsigned(right)?);
-            sheet.gap(left as usize, right as usize, signed(distance)?);
+            let left = unsigned(left).ok_or((14, 2))?;
+            let right = unsigned(right).ok_or((14, 3))?;
+            let distance = signed(distance).ok_or((14, 4))?;
+            sheet.gap(left as usize, right as usize, distance);
         }
-        _ => return None,
+        [_, _, _, _] => return Err((13, 1)),
+        _ => return Err((10, 0)),
     }
-    Some(())
+    Ok(())
 }
 
 /// 1 to 9 digits.

@@ -13,7 +13,7 @@ use crate::refusals;
 use crate::rounding::{away_from_zero, units_of};
 use crate::sheet::{file, Sheet};
 use crate::solver;
-use dirmoog::{Answer, Listable, Reading};
+use dirmoog::{Answer, Listable};
 use std::path::Path;
 
 /// Lists that have room for every sheet.
@@ -27,12 +27,15 @@ fn roomy() -> Sheet {
     }
 }
 
-/// The answer to a text by the library, with its gaps and its places.
-fn answered(text: &[u8]) -> (Answer, Sheet, Lent) {
+/// What the library prints for a text.
+fn printed(text: &[u8]) -> Vec<u8> {
     let mut lists = roomy();
-    match read_into(text, &mut lists) {
-        Reading::Refused(refusal) => (Answer::Refused(refusal), Sheet::default(), Lent::default()),
-        Reading::Sheet(counts) => {
+    match read_into(text, &mut lists).sheet() {
+        Err(told) => {
+            let answer = Answer::Refused(told.refusal);
+            Lent::default().printed(answer, told.field, &Sheet::default())
+        }
+        Ok(counts) => {
             let (labels, gaps) = (counts.labels as usize, counts.gaps as usize);
             lists.wanted.truncate(labels);
             lists.weight.truncate(labels);
@@ -40,37 +43,32 @@ fn answered(text: &[u8]) -> (Answer, Sheet, Lent) {
             lists.right.truncate(gaps);
             lists.distance.truncate(gaps);
             let mut lent = Lent::zeros(labels, gaps);
-            (lent.call(&lists), lists, lent)
+            let answer = lent.call(&lists);
+            lent.printed(answer, 0, &lists)
         }
     }
 }
 
-/// What the library prints for a text.
-fn printed(text: &[u8]) -> Vec<u8> {
-    let (answer, sheet, lent) = answered(text);
-    lent.printed(answer, &sheet)
-}
-
-fn refused(number: u64, place: u64) -> Vec<u8> {
-    listing(refused_at(number, place), &Listable::default())
+fn refused(number: u64, place: u64, field: u64) -> Vec<u8> {
+    listing(refused_at(number, place), field, &Listable::default())
 }
 
 /// What the parts beside the library print for a text.
 fn expected(text: &[u8]) -> Vec<u8> {
     let sheet = match read(text) {
         Ok(sheet) => sheet,
-        Err((number, place)) => return refused(number, place),
+        Err((number, place, field)) => return refused(number, place, field),
     };
     let mut lent = Lent::zeros(sheet.labels(), sheet.gaps());
     if let Some((number, place)) = refusals::table(&sheet, &lent) {
-        return refused(number, place);
+        return refused(number, place, 0);
     }
     let Some(places) = solver::solve(&sheet) else {
-        return refused(9, 0);
+        return refused(9, 0, 0);
     };
     lent.place_num = places.iter().map(|p| p.num as i64).collect();
     lent.place_den = places.iter().map(|p| p.den as i64).collect();
-    listing(Answer::Placed, &lent.listable(&sheet))
+    listing(Answer::Placed, 0, &lent.listable(&sheet))
 }
 
 /// A text and what both sides print for it.
@@ -85,7 +83,7 @@ fn run_of_document_01() {
         b"label,0,0,1\r\nlabel,1,3,1\r\ngap,0,1,6\r\n",
         "place,0,-3,2,-1\r\nplace,1,9,2,5\r\nslack,0,0,1\r\n",
     );
-    prints(b"label,0,0,1\r\ngap,0,0,1\r\n", "refused,9,0\r\n");
+    prints(b"label,0,0,1\r\ngap,0,0,1\r\n", "refused,9,0,0\r\n");
     prints(
         b"label,0,0,1\r\ngap,0,0,-1\r\n",
         "place,0,0,1,0\r\nslack,0,1,1\r\n",
@@ -125,9 +123,9 @@ fn blank_weight_counts_ten() {
         b"label,0,0,1\nlabel,1,11,1\ngap,0,1,22\n",
         "place,0,-11,2,-5\r\nplace,1,33,2,17\r\nslack,0,0,1\r\n",
     );
-    prints(b"label,0,0,0\n", "refused,6,0\r\n");
+    prints(b"label,0,0,0\n", "refused,6,0,0\r\n");
     prints(b"label,0,0,\r\n", "place,0,0,1,0\r\n");
-    prints(b"label,0,0,\r", "refused,10,1\r\n");
+    prints(b"label,0,0,\r", "refused,14,1,4\r\n");
 }
 
 /// Document 02, Item 4: two labels that may cross by one unit at most. Halves go to the larger number, so that the whole
@@ -139,6 +137,77 @@ fn units_of_crossing_labels() {
     prints(&text, "place,0,1,2,1\r\nplace,1,-1,2,0\r\nslack,0,0,1\r\n");
 }
 
+/// Document 02, Item 5: which field of the line. Each text is printed so whether its last line lacks its end or not.
+#[test]
+fn which_field_of_the_line() {
+    for (texts, record) in [
+        (
+            &["label,0,0", "\n", "x,0", "x,0,0,1,"][..],
+            "refused,10,1,0",
+        ),
+        (
+            &["Label,0,0,1", "\"label\",0,0,1", ",0,0,1"],
+            "refused,13,1,1",
+        ),
+        (&["label,,0,1", "label,-0,0,1"], "refused,14,1,2"),
+        (&["label,0000000000,0,1"], "refused,14,1,2"),
+        (&["label,0,+5,1"], "refused,14,1,3"),
+        (&["label,0,0,-1", "label,7,0,x"], "refused,14,1,4"),
+        (&["label,1,0,1"], "refused,15,1,2"),
+        (&["label,0,0,1\nlabel,5,0,1\nx"], "refused,15,2,2"),
+        (&["label,0,0,1\nlabel,001,0,1\ngap,0,1,O"], "refused,14,3,4"),
+    ] {
+        for (text, end) in texts.iter().flat_map(|text| ENDS.map(|end| (text, end))) {
+            prints(format!("{text}{end}").as_bytes(), &format!("{record}\r\n"));
+        }
+    }
+    // a LF behind this CR would make it the line's end
+    prints(b"label,0,0,1\r", "refused,14,1,4\r\n");
+    prints(b"label,0,0,1\r\n", "place,0,0,1,0\r\n");
+    // neither has a line
+    prints(&[b'x'; 16_385], "refused,11,0,0\r\n");
+    prints(&file("ring.csv"), "refused,9,0,0\r\n");
+}
+
+/// What may stand behind a line, or be lacking.
+const ENDS: [&str; 3] = ["", "\n", "\r\n"];
+
+/// A bad line comes before 1 and 2, also where it stands behind what they refuse, and 11 before all.
+#[test]
+fn bad_lines_beyond_the_limits() {
+    let labels: String = (0..49).map(|i| format!("label,{i},0,1\n")).collect();
+    let gaps = "gap,0,0,0\n".repeat(193);
+    for (bad, number, field) in [
+        ("x", 10, 0),
+        ("x,0,0,1", 13, 1),
+        ("label,50,x,1", 14, 3),
+        ("label,48,0,1", 15, 2),
+    ] {
+        for (before, limit, line) in [(&labels, 1, 50), (&gaps, 2, 194)] {
+            prints(before.as_bytes(), &format!("refused,{limit},0,0\r\n"));
+            let text = format!("{before}{bad}\n");
+            let record = format!("refused,{number},{line},{field}\r\n");
+            prints(text.as_bytes(), &record);
+            let long = [text.as_bytes(), &[b'\n'; 16_384]].concat();
+            prints(&long[..16_384], &record);
+            prints(&long[..16_385], "refused,11,0,0\r\n");
+        }
+    }
+}
+
+/// The letter O for a zero.
+#[test]
+fn typing_slip() {
+    let text = file("typing-slip.csv");
+    assert!(text.ends_with(b"gap,1,2,26O\r\n"));
+    prints(&text, "refused,14,5,4\r\n");
+    let mended = String::from_utf8(text).expect("a text").replace('O', "0");
+    prints(
+        mended.as_bytes(),
+        "place,0,-10,1,-10\r\nplace,1,250,1,250\r\nplace,2,510,1,510\r\nslack,0,0,1\r\nslack,1,0,1\r\n",
+    );
+}
+
 /// Holds the whole units that are printed for a placed text to every gap, and tells whether halves away from zero would
 /// break one.
 fn check_units(text: &[u8], out: &[u8]) -> bool {
@@ -148,12 +217,14 @@ fn check_units(text: &[u8], out: &[u8]) -> bool {
     confirm_units(&sheet, &units_of(&records.places, away_from_zero)).is_err()
 }
 
-/// The texts of the program station_cases, generated ones among them: the library prints what its file has, and the whole
-/// units meet every gap. Each text has its name in front and a byte 0 behind.
+/// The texts of the program station_cases, generated ones among them: the library and the parts beside it print what its
+/// file has, and the whole units meet every gap. Each text has its name in front and a byte 0 behind.
 #[test]
 fn station_cases() {
     let cases = Path::new(env!("CARGO_MANIFEST_DIR")).join("../crates/station_cases");
     let texts = std::fs::read(cases.join("stdin")).expect("the texts");
+    // the program's buffer: it would not see what is beyond
+    assert!(texts.len() <= 65_536);
     let (mut all, mut placed) = (Vec::new(), 0);
     for entry in texts.split_inclusive(|&byte| byte == 0) {
         let (text, end) = entry.split_at(entry.len() - 1);
@@ -161,6 +232,7 @@ fn station_cases() {
         let line = text.iter().position(|&byte| byte == b'\n').expect("a name");
         let (name, text) = text.split_at(line + 1);
         let out = printed(text);
+        assert_eq!(out, expected(text), "{}", name.escape_ascii());
         if out.starts_with(b"place") {
             check_units(text, &out);
             placed += 1;

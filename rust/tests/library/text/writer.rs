@@ -1,10 +1,10 @@
-//! A second writer of the listing, written from document 01 and document 02, Items 1 and 4, apart from the library's.
+//! A second writer of the listing, written from document 01 and document 02, Items 1, 4 and 5, apart from the library's.
 use crate::rounding::{half_up, whole};
 use crate::slack;
 use dirmoog::{Answer, Fraction, Listable, SlackAnswer};
 
-/// The listing of an answer over its places and gaps.
-pub fn listing(answer: Answer, lists: &Listable<'_>) -> Vec<u8> {
+/// The listing of an answer over its places and gaps, or with its field.
+pub fn listing(answer: Answer, field: u64, lists: &Listable<'_>) -> Vec<u8> {
     let records: Vec<String> = match answer {
         Answer::Placed => {
             let places = (0..lists.place_num.len()).filter_map(|label| place_record(lists, label));
@@ -12,7 +12,8 @@ pub fn listing(answer: Answer, lists: &Listable<'_>) -> Vec<u8> {
             places.chain(slacks).collect()
         }
         Answer::Refused(refusal) => {
-            vec![format!("refused,{},{}\r\n", refusal.number, refusal.place)]
+            let (number, place) = (refusal.number, refusal.place);
+            vec![format!("refused,{number},{place},{field}\r\n")]
         }
     };
     records.concat().into_bytes()

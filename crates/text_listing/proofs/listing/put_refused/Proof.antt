@@ -1,14 +1,13 @@
 -- `text_listing::listing::put_refused` meets its contract: the word, three fields and the end behind each other.
 use borrow.Author.Needs.{needs}
-use mathlib.Core.Path.{_≡_, ap, _∙_}
-use Prim.Native.Nat.{ℕ, _≤_}
+use mathlib.Core.Path.{_∙_}
+use Prim.Native.Nat.{_≤_}
 use native.Mathlib.Omega.{arith}
 use lib.ListN.{length}
-use Rattle.text_rows.specs.Lines.{next}
 use Rattle.text_rows.specs.Numeral.{decimalMost, decimal}
 use Rattle.text_listing.specs.Listing.{refusedWord, refusedRecord}
-use Rattle.text_listing.proofs.Appending.{then, copied, told}
-use Rattle.text_listing.proofs.Size.{length-decimal-64, length-field}
+use Rattle.text_listing.proofs.Appending.{then, copied}
+use Rattle.text_listing.proofs.Size.{length-decimal-64}
 use Rattle.text_listing.proofs.listing.put_refused.Statement.{statement}
 use Rattle.text_listing.proofs.listing.put_refused.Tie as tie
 
@@ -19,13 +18,8 @@ number-most s = length-decimal-64 (s .args .refusal .number) (omega (arith, s .g
 place-most : (s : tie.Start) → length (decimal (s .args .refusal .place)) ≤ decimalMost
 place-most s = length-decimal-64 (s .args .refusal .place) (omega (arith, s .good))
 
-shown-digits : (c : tie.After-shown-field) → length (decimal (c .shown-field .result)) ≤ decimalMost
-shown-digits c =
-    let s = c .before .before in
-    rw (c .shown-field .ensures) (length-field (s .args .refusal .number) (s .args .field) (omega (arith, s .good)))
-
-shown-field-requires : tie.Need-shown-field-requires
-shown-field-requires c κs = search needs
+field-most : (s : tie.Start) → length (decimal (s .args .field)) ≤ decimalMost
+field-most s = length-decimal-64 (s .args .field) (omega (arith, s .good))
 
 slice-aggregate-put-word : tie.Need-slice-aggregate-put-word
 slice-aggregate-put-word c = search needs
@@ -35,26 +29,25 @@ put-word-requires c κs = search needs
 
 put-number-field-requires : tie.Need-put-number-field-requires
 put-number-field-requires c κs =
-    let s = c .before .before .before .before .before .before .before .before in
+    let s = c .before .before .before .before .before .before .before in
     omega (arith, number-most s)
 
 put-number-field-requires-2 : tie.Need-put-number-field-requires-2
 put-number-field-requires-2 c κs =
-    let s = c .before .before .before .before .before .before .before .before .before .before .before .before in
+    let s = c .before .before .before .before .before .before .before .before .before .before .before in
     omega (arith, number-most s, place-most s)
 
 put-number-field-requires-3 : tie.Need-put-number-field-requires-3
 put-number-field-requires-3 c κs =
-    let f = c .before .before .before .before .before .before .before .before .before .before .before .before .before .before in
-    let s = f .before .before in
-    omega (arith, number-most s, place-most s, shown-digits f)
+    let s = c .before .before .before .before .before .before .before .before .before .before .before .before .before .before
+    .before in
+    omega (arith, number-most s, place-most s, field-most s)
 
 put-end-requires : tie.Need-put-end-requires
 put-end-requires c κs =
-    let f = c .before .before .before .before .before .before .before .before .before .before .before .before .before .before
-    .before .before .before .before in
-    let s = f .before .before in
-    omega (arith, number-most s, place-most s, shown-digits f)
+    let s = c .before .before .before .before .before .before .before .before .before .before .before .before .before .before
+    .before .before .before .before .before in
+    omega (arith, number-most s, place-most s, field-most s)
 
 same-length : tie.Need-same-length
 same-length c =
@@ -72,18 +65,16 @@ returns c =
     let second = third .before .before .before .before in
     let first = second .before .before .before .before in
     let word = first .before .before .before .before in
-    let shown = word .before .before .before in
     then (copied refusedWord (omega arith) (word .put-word .ensures .0) (word .put-word .ensures .1))
     (then (first .put-number-field .ensures)
     (then (second .put-number-field2 .ensures)
-    (then (told (ap (λ (n : ℕ). next (decimal n)) (shown .shown-field .ensures)) (third .put-number-field3 .ensures))
+    (then (third .put-number-field3 .ensures)
     (c .before .before .put-end .ensures))))
 
 pub put-refused-spec : {M : Type 1} → statement M
 put-refused-spec =
     tie.close
     (tie.spec
-    shown-field-requires
     slice-aggregate-put-word
     put-word-requires
     put-number-field-requires
