@@ -26,7 +26,7 @@
  *   11   long text     the text is above 16,384 bytes                                                       0
  *   12   bad fraction  a denominator outside 1 to 4,800, or a numerator beyond 5,472,000,000 either way     0
  *   13   unknown kind  the first field is neither label nor gap                                             line, from 1
- *   14   bad number    a number breaks its rule                                                             line, from 1
+ *   14   bad number    a number breaks its rule, which dirmoog_read's comment has                           line, from 1
  *   15   out of turn   a label's number is not the count of labels before it                                line, from 1
  *
  * The checks run in this order: 11; then 10, 13, 14 and 15 line by line, where the first bad line wins; then 1 to 9, each
@@ -136,8 +136,9 @@ uint64_t dirmoog_slack(int64_t left_num, int64_t left_den,
  * The text is comma-separated records, each ended by CRLF or LF; the last end may lack. A record has four fields: "label",
  * its number, wanted place, weight; or "gap", left, right, distance. A number is 1 to 9 digits, leading zeros allowed, with
  * a minus sign in front only in a wanted place or a distance. A blank weight is 10. Label numbers run 0, 1, 2; gaps are
- * numbered in their order, and a gap may come before the labels it names. A blank line has one field. Any other byte, also
- * a quote or a CR that is not just before a LF, belongs to its field, and no field but a weight may be blank.
+ * numbered in their order, and a gap may come before the labels it names. The first field is compared byte for byte. Every
+ * byte but a comma, a LF and a CR just before a LF belongs to its field, also a quote; no field but a weight may be blank,
+ * and a blank line has one field.
  *
  *   text       the bytes of the text; none are a sheet of no labels
  *   wanted, weight            one entry per label is written

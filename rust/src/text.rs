@@ -78,9 +78,9 @@ pub struct Lists<'a> {
 /// Reads a sheet's text into the front of lent lists. The entries beyond stay; a refused text writes nothing. A weight
 /// that is left blank in the text is read as 10; a weight of 0 is no blank one, and [`lay_out`](crate::lay_out) refuses it.
 ///
-/// A text is refused with 11 if it is too long; else at the first bad line, with 10 if that has not four fields, 13 if
-/// its first field is neither kind, 14 if a number breaks its rule, 15 if a label's number is out of turn; else with 1
-/// for too many labels, 2 for too many gaps, 4 if a list is too short.
+/// A text is refused, in this order, with 11 if it is too long; else at the first bad line, with 10 if that has not four
+/// fields, 13 if its first field is neither kind, 14 at the first number that breaks its rule, 15 if a label's number is
+/// out of turn; else with 1 for too many labels, 2 for too many gaps, 4 if a list is too short.
 ///
 /// ```
 /// use dirmoog::{read_sheet, Counts, Lists, Reading, Refusal, TextRefusal};

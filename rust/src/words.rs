@@ -28,7 +28,7 @@ fn word(number: u64) -> Option<&'static str> {
     WORDS.get(row).copied()
 }
 
-/// What a number's place is, if it is more than 0.
+/// What a number's place counts; nothing where it is always 0.
 fn place_kind(number: u64) -> Option<&'static str> {
     match number {
         5 | 6 => Some("label"),

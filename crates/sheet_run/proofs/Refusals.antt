@@ -23,7 +23,7 @@ use Rattle.text_rows.specs.declared.Row.{Row}
 use Rattle.text_reading.specs.declared.Reading.{Reading}
 use Rattle.text_reading.specs.declared.Reading.the-variants.{Sheet, Refused}
 use Rattle.text_rows.specs.Lines.{lines, push, startsWith, lineFeed, carriageReturn}
-use Rattle.text_rows.specs.Taking.{FieldTold, badField, badNumber, noField, taken}
+use Rattle.text_rows.specs.Taking.{FieldTold, refusalField, refusalNumber, noField, taken}
 use Rattle.text_rows.proofs.BadLines.{no-field, taken-told}
 use Rattle.text_reading.specs.Texts.{Typed, nothingTyped, add, earlierOf, Outcome, bad-line, sheet, follow, readFrom}
 use Rattle.text_reading.specs.Texts.{outcome, Lists, Done, roomFor, filled, refusedWith, countsOf, settled, judged, reading, textMost}
@@ -67,7 +67,7 @@ line-below [] n t most h = tt
 line-below (l ∷ ls) n t most h = go (taken (earlierOf t) l) (taken-told (earlierOf t) l) (λ row. line-below ls (suc n) (add t row) most (omega arith))
   where
     go :
-        (k : Taken) → FieldTold (badNumber k) (badField k) → ((row : Row) → LineBelow most (readFrom ls (suc n) (add t row)))
+        (k : Taken) → FieldTold (refusalNumber k) (refusalField k) → ((row : Row) → LineBelow most (readFrom ls (suc n) (add t row)))
         → LineBelow most (follow k n t (readFrom ls (suc n)))
     go (Bad number field) told later = (omega arith, told)
     go (Good row) told later = later row

@@ -122,7 +122,7 @@ pub slip-listed : refusedRecord slip 4 ≡ bytes "refused,14,31,4\r\n"
 unfolding refusedRecord digitsOf
 slip-listed = refl
 
--- there are four fields, as of a bad field, so without one
+-- there are four fields, with a bad field and without
 pub three-fields : refusedRecord slip 4 ≢ bytes "refused,14,31\r\n"
 unfolding refusedRecord digitsOf
 three-fields = longer (λ e. omega arith)

@@ -9,7 +9,7 @@ use Rattle.text_rows.specs.declared.Row.{Row}
 use Rattle.text_rows.specs.declared.Taken.{Taken}
 use Rattle.text_rows.specs.declared.Taken.the-variants.{Good, Bad}
 use Rattle.text_rows.specs.Lines.{lines}
-use Rattle.text_rows.specs.Taking.{FieldTold, badField, badNumber, noField, taken}
+use Rattle.text_rows.specs.Taking.{FieldTold, refusalField, refusalNumber, noField, taken}
 use Rattle.text_rows.proofs.BadLines.{no-field, taken-told}
 use Rattle.text_reading.specs.declared.Reading.the-variants.{Sheet}
 use Rattle.text_reading.specs.Readings.{fieldOf, numberOf}
@@ -28,7 +28,7 @@ line-told [] n t = tt
 line-told (l ∷ ls) n t = go (taken (earlierOf t) l) (taken-told (earlierOf t) l) (λ row. line-told ls (suc n) (add t row))
   where
     go :
-        (k : Taken) → FieldTold (badNumber k) (badField k) → ((row : Row) → LineTold (readFrom ls (suc n) (add t row)))
+        (k : Taken) → FieldTold (refusalNumber k) (refusalField k) → ((row : Row) → LineTold (readFrom ls (suc n) (add t row)))
         → LineTold (follow k n t (readFrom ls (suc n)))
     go (Bad number field) told later = told
     go (Good row) told later = later row

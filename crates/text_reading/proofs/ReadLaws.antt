@@ -22,7 +22,7 @@ use Rattle.text_reading.specs.declared.Reading.the-variants.{Sheet, Refu
 use Rattle.text_rows.specs.declared.lines.Cursor.{Cursor}
 use Rattle.text_rows.specs.declared.lines.Line.{Line}
 use Rattle.text_rows.specs.Lines.{lines}
-use Rattle.text_rows.specs.Taking.{badField, badNumber, noField, taken}
+use Rattle.text_rows.specs.Taking.{refusalField, refusalNumber, noField, taken}
 use Rattle.text_reading.specs.Texts.{Typed, nothingTyped, add, Outcome, bad-line, sheet, follow, readFrom, outcome}
 use Rattle.text_reading.specs.Texts.{textMost, Lists, countsOf, front, filled, roomFor, refusedWith, settled, judged, reading}
 use Rattle.text_rows.specs.LineAt.{LineAt}
@@ -86,10 +86,10 @@ module _ {text : List ℕ} {from : Cursor} {c : Counts} {w : Lists} {l : Line} (
   -- a line that is not taken: its number and its field are told with its line
   pub reached-bad :
       (k : Taken) {number field n f : ℕ} → k ≡ rowAt text (from .at) (l .end) c → k ≡ Bad number field
-      → n ≡ badNumber k → f ≡ badField k → (r : Reading) → r ≡ refusal n (from .line) f → ScannedBy (outcome text) r w
+      → n ≡ refusalNumber k → f ≡ refusalField k → (r : Reading) → r ≡ refusal n (from .line) f → ScannedBy (outcome text) r w
   reached-bad k {number} {field} e bad is-n is-f r q =
       let told : r ≡ refusal number (from .line) field =
-      q ∙ λ i. refusal ((is-n ∙ ap badNumber bad) i) (from .line) ((is-f ∙ ap badField bad) i) in
+      q ∙ λ i. refusal ((is-n ∙ ap refusalNumber bad) i) (from .line) ((is-f ∙ ap refusalField bad) i) in
       subst (λ (o : Outcome). ScannedBy o r w) (sym (followed (Bad number field) (sym e ∙ bad))) told
 
   pub reached-turn :

@@ -40,7 +40,7 @@ add t (Gap g) = record { labels = t .labels; gaps = t .gaps ++ (g ∷ []) }
 abbrev pub earlierOf : Typed → Earlier
 earlierOf t = record { labels = length (t .labels) }
 
--- a text is a sheet, or has a first bad line, "line from 1", with its number and its field
+-- a text is a sheet, or has a first bad line, "line from 1", with the refusal's number and the bad field
 pub data Outcome : Type 0 where
   bad-line : (line number field : ℕ) → Outcome
   sheet : Typed → Outcome

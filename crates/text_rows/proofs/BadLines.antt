@@ -12,7 +12,7 @@ use Rattle.text_rows.specs.declared.Taken.the-variants.{Good, Bad}
 use Rattle.text_rows.specs.declared.Row.the-variants.{Label}
 use Rattle.text_rows.specs.Lines.{fields}
 use Rattle.text_rows.specs.Numeral.{number, signed, weightOf}
-use Rattle.text_rows.specs.Taking.{FieldTold, badField, badNumber, fieldAt, gapRow, gapWord, given, labelRow, labelWord, noField, rowOf, same, taken}
+use Rattle.text_rows.specs.Taking.{FieldTold, refusalField, refusalNumber, fieldAt, gapRow, gapWord, given, labelRow, labelWord, noField, rowOf, same, taken}
 
 -- no number below 13 names a field
 pub no-field : (number : ℕ) → number ≤ 12 → FieldTold number noField
@@ -27,7 +27,7 @@ no-field number h = record {
 
 -- it is told of a line
 abbrev Told : Taken → Type 0
-Told t = FieldTold (badNumber t) (badField t)
+Told t = FieldTold (refusalNumber t) (refusalField t)
 
 kind-told : Told (Bad 13 1)
 kind-told = record {
@@ -82,7 +82,7 @@ gap-told u v g =
     (λ z. no-field 0 (omega arith))))
 
 -- of every line, whatever came before it
-pub taken-told : (earlier : Earlier) (line : List ℕ) → FieldTold (badNumber (taken earlier line)) (badField (taken earlier line))
+pub taken-told : (earlier : Earlier) (line : List ℕ) → FieldTold (refusalNumber (taken earlier line)) (refusalField (taken earlier line))
 unfolding rowOf
 taken-told earlier line =
     let fs = fields line in

@@ -47,7 +47,7 @@ good-gap = refl
 
 -- ---- 10: "a line without four fields"
 
--- three are too few, and so are none: a blank line has one field, which is blank
+-- three are too few, and so is one, the blank field of a blank line
 pub three-fields : taken (after 0) (bytes "label,0,0") ≡ Bad 10 noField
 unfolding fields allDigits valueOf number signed weightOf same rowOf
 three-fields = refl

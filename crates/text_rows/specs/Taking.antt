@@ -32,14 +32,14 @@ gapWord = bytes "gap"
 abbrev pub noField : ℕ
 noField = 0
 
--- the refusal of a line, and its bad field: 0 for one that is taken
-abbrev pub badNumber : Taken → ℕ
-badNumber (Good row) = 0
-badNumber (Bad number field) = number
+-- the number of a line's refusal, and its bad field: 0 for a line that is taken
+abbrev pub refusalNumber : Taken → ℕ
+refusalNumber (Good row) = 0
+refusalNumber (Bad number field) = number
 
-abbrev pub badField : Taken → ℕ
-badField (Good row) = noField
-badField (Bad number field) = field
+abbrev pub refusalField : Taken → ℕ
+refusalField (Good row) = noField
+refusalField (Bad number field) = field
 
 -- "a number that breaks its rule is 14": what a field tells, or the line is refused at this field
 abbrev pub given : {A : Type 0} → (field : ℕ) → Option A → (A → Taken) → Taken
@@ -76,8 +76,8 @@ rowOf earlier fs =
 abbrev pub taken : Earlier → List ℕ → Taken
 taken earlier line = rowOf earlier (fields line)
 
--- what holds of a number that is told for a text, and of the field beside it: 13 names the first field, 14 the second to the
--- fourth, 15 the second, and no other number one
+-- "for 13 to 15 the bad field counted from 1, else 0", of a number that is told for a text or a sheet and the field beside
+-- it: 13 names the first field, 14 the second to the fourth, 15 the second, and no other number one
 pub record FieldTold (number field : ℕ) : Type 0 where
   pub none : number < 13 → field ≡ noField
   pub kind : number ≡ 13 → field ≡ 1

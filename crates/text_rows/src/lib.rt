@@ -1,7 +1,7 @@
 // The lines of a text, their fields, and the records that they tell.
 use ground::GapRecord;
 ghost use mathlib.Core.Path.{_≡_};
-ghost use Rattle.text_rows.specs.Taking.{badField, badNumber};
+ghost use Rattle.text_rows.specs.Taking.{refusalField, refusalNumber};
 
 mod field;
 pub mod lines;
@@ -36,7 +36,7 @@ pub enum Taken {
 impl Taken {
     // The number of the refusal; 0 for a record.
     pub fn number(self) -> usize
-        ensures { λ r. ⌜ r ≡ badNumber self ⌝ }
+        ensures { λ r. ⌜ r ≡ refusalNumber self ⌝ }
     {
         match self {
             Taken::Good(_) => 0,
@@ -46,7 +46,7 @@ impl Taken {
 
     // The bad field; none for a record.
     pub fn field(self) -> usize
-        ensures { λ r. ⌜ r ≡ badField self ⌝ }
+        ensures { λ r. ⌜ r ≡ refusalField self ⌝ }
     {
         match self {
             Taken::Good(_) => NO_FIELD,

@@ -128,6 +128,7 @@ fn read(text: &[u8], out: &mut [u64]) -> u64 {
 /// A sheet tells its counts of labels and gaps, a refused text its place and its field.
 #[test]
 fn read_tells_what_fits() {
+    let labels: String = (0..49).map(|i| format!("label,{i},0,1\n")).collect();
     for (text, number, told) in [
         (&b"label,0,7,\ngap,0,0,0\n"[..], 0, [1, 1]),
         (b"", 0, [0, 0]),
@@ -139,6 +140,7 @@ fn read_tells_what_fits() {
         (b"label,0,7,\ngap,0,0,0\nlabel,7,0,x\n", 14, [3, 4]),
         (b"gap,0,0,0\ngap,0,0,0\nlabel,1,0,1\n", 15, [3, 2]),
         (b"gap,0,0,0\ngap,0,0,0\n", 4, [0, 0]),
+        (labels.as_bytes(), 1, [0, 0]),
         (&b"gap,0,0,0\n".repeat(193), 2, [0, 0]),
         (&[b'x'; 16_385], 11, [0, 0]),
     ] {

@@ -48,6 +48,23 @@ fn words_of_the_table() {
     }
 }
 
+/// Every number that no text has, each as it is answered.
+#[test]
+fn words_of_sheets() {
+    for (number, place, ring, words) in [
+        (3, 0, 0, "ragged"),
+        (5, 0, 0, "off plate: label 0"),
+        (6, 17, 0, "bad weight: label 17"),
+        (7, 191, 0, "stranger: gap 191"),
+        (8, 2, 0, "bad gap: gap 2"),
+        (9, 0, 1, "ring of 1 gap"),
+        (9, 0, 48, "ring of 48 gaps"),
+        (12, 0, 0, "bad fraction"),
+    ] {
+        assert_eq!(refusal(number, place, ring).to_string(), words);
+    }
+}
+
 /// Every number of a text, each as it is answered.
 #[test]
 fn words_of_texts() {

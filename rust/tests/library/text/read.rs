@@ -149,7 +149,7 @@ fn damaged_texts() {
 }
 
 /// Checks so many generated texts with slips: what must be answered is known from where the slips were made. Counts the
-/// answers by number and field, and those beyond the 48th label.
+/// answers by number and field, and those behind more than 48 labels, which 1 would refuse.
 fn run_slips(
     seed: u64,
     cases: u64,
@@ -166,7 +166,7 @@ fn run_slips(
         let lists = lists_for(&mut random, &sheet);
         assert_eq!(check(&text, &lists), told, "{}", text.escape_ascii());
         let (number, _, field) = told;
-        for count in &mut counts[..if labels < 48 { 1 } else { 2 }] {
+        for count in &mut counts[..if labels > 48 { 2 } else { 1 }] {
             *count.entry((number, field)).or_insert(0) += 1;
         }
     }
@@ -177,7 +177,7 @@ fn run_slips(
 fn slipped_texts() {
     let [all, beyond] = run_slips(26_000_000, 60_000, slipped);
     println!("texts with slips, by number and field: {all:?}");
-    println!("those beyond the 48th label: {beyond:?}");
+    println!("those behind more than 48 labels: {beyond:?}");
     for answer in [(10, 0), (13, 1), (14, 2), (14, 3), (14, 4), (15, 2)] {
         assert!(all[&answer] > 4_000 && beyond[&answer] > 300, "{answer:?}");
     }
@@ -188,7 +188,7 @@ fn slipped_texts() {
 fn misplaced_labels() {
     let [all, beyond] = run_slips(27_000_000, 10_000, misplaced);
     println!(
-        "labels typed twice or left out, by number and field: {all:?}, beyond the 48th {beyond:?}"
+        "labels typed twice or left out, by number and field: {all:?}, behind more than 48 {beyond:?}"
     );
     assert!(all[&(15, 2)] == 10_000 && beyond[&(15, 2)] > 300);
 }
