@@ -31,7 +31,9 @@ use Rattle.sheet_run.specs.Run.{LaidFrom, PrintedFor, Run, zeroLists, le
 use Rattle.sheet_run.proofs.Refusals.{SmallReading, small-reading}
 
 -- a refusal's ring is not printed
-ring-unprinted : (number place ring ring′ : ℕ) → refusedRecord (record { number = number; place = place; ring = ring }) noField ≡ refusedRecord (record { number = number; place = place; ring = ring′ }) noField
+ring-unprinted :
+    (number place ring ring′ : ℕ) → refusedRecord (record { number = number; place = place; ring = ring }) noField
+    ≡ refusedRecord (record { number = number; place = place; ring = ring′ }) noField
 unfolding refusedRecord
 ring-unprinted number place ring ring′ = refl
 

@@ -19,25 +19,31 @@ use Rattle.ground.specs.declared.Answer.the-variants as answer
 use Rattle.sheet_checks.specs.Lent.{Written, labelCount, sheetOf}
 use Rattle.layout.specs.Promise.{Promise, Accepted}
 use Rattle.layout.proofs.Facts.{placed-accepted}
-use Rattle.text_rows.specs.Taking.{noField}
+use Rattle.text_rows.specs.Taking.{FieldTold, noField}
+use Rattle.text_rows.proofs.BadLines.{no-field}
 use Rattle.text_reading.specs.declared.Counts.{Counts}
 use Rattle.text_reading.specs.declared.Reading.{Reading}
 use Rattle.text_reading.specs.declared.Reading.the-variants.{Sheet, Refused}
-use Rattle.text_reading.specs.Texts.{Lists, reading}
+use Rattle.text_reading.specs.Readings.{fieldOf, numberOf}
+use Rattle.text_reading.specs.Texts.{Lists, reading, textMost}
+use Rattle.text_reading.proofs.FieldsTold.{field-told}
 use Rattle.text_listing.specs.Listing.{listing, refusedRecord, listingRoom}
 use Rattle.text_listing.proofs.Size.{AllFit, length-refused-record, length-sheet-records}
 use Rattle.sheet_run.specs.Run.{zeroLists, lent, listableRead, PrintedFor, sheetRead}
-use Rattle.sheet_run.proofs.Refusals.{Small, SmallReading, sheetNumberMost, small-answer, small-reading, textNumberMost}
+use Rattle.sheet_run.proofs.Refusals.{SmallReading, small-answer, small-reading}
 
 pub take-most : {A : Type 0} (n : ℕ) (l : List A) → length (take n l) ≤ n
 take-most zero l = omega arith
 take-most (suc n) [] = omega arith
 take-most (suc n) (x ∷ l) = omega (arith, take-most n l)
 
-pub refused-most : (most : ℕ) → most ≤ textNumberMost → (r : Refusal) (field : ℕ) → Small most r → field ≤ 4 → length (refusedRecord r field) ≤ listingRoom
-refused-most most few r field s f =
-    omega
-    (arith, length-refused-record r field (record { fits = omega (arith, s .0) }) (record { fits = omega (arith, s .1) }) (record { fits = omega arith }))
+pub refused-most : (r : Refusal) (field : ℕ) → FieldTold (r .number) field → r .place ≤ textMost → length (refusedRecord r field) ≤ listingRoom
+refused-most r field told place =
+    omega (
+      arith,
+      length-refused-record r field (record { fits = omega (arith, told .number-most) }) (record { fits = omega arith })
+          (record { fits = omega (arith, told .field-most) }),
+    )
 
 -- the first numbers of a list fit if each within its first n is small
 first-fit : (n : ℕ) (l : List ℤ) → ((k : ℕ) → k < n → natAbs (getD l k (pos 0)) ≤ 5472000000) → AllFit (take n l)
@@ -67,15 +73,15 @@ module _ (c : Counts) (l : Lists) (w after : Written) (few : c .labels ≤ 48) (
   -- its listing
   pub laid-out-most : (a : Answer) → Promise (sheetRead c l) w a after → length (listing a noField (listableRead c l after)) ≤ listingRoom
   laid-out-most (answer.Refused x) p =
-      refused-most sheetNumberMost (omega arith) x noField
-      (small-answer (sheetRead c l) w (answer.Refused x) after (omega (arith, counted)) (omega (arith, take-most (c .gaps) (l .left))) p)
-      (omega arith)
+      let small = small-answer (sheetRead c l) w (answer.Refused x) after (omega (arith, counted)) (omega (arith, take-most (c .gaps) (l .left))) p in
+      refused-most x noField (no-field (x .number) (omega (arith, small .0))) (small .1)
   laid-out-most answer.Placed p = placed-most (placed-accepted p refl)
 
 -- what is printed for any text has at most 24,576 bytes
 pub printed-most : (text printed : List ℕ) → PrintedFor (reading text zeroLists .answer) (reading text zeroLists .lists) printed → length printed ≤ listingRoom
-printed-most text printed h = go (reading text zeroLists .answer) (reading text zeroLists .lists) (small-reading text zeroLists) h
+printed-most text printed h =
+    go (reading text zeroLists .answer) (reading text zeroLists .lists) (small-reading text zeroLists) (field-told text zeroLists) h
   where
-    go : (r : Reading) (l : Lists) → SmallReading r l → PrintedFor r l printed → length printed ≤ listingRoom
-    go (Refused x f) l s e = rw e (refused-most textNumberMost (omega arith) x f (s .0) (s .1 .field-most))
-    go (Sheet c) l s d = rw (d .listed) (laid-out-most c l (lent c) (d .after) (s .0) (s .1) (s .2) (d .answer) (d .promise))
+    go : (r : Reading) (l : Lists) → SmallReading r l → FieldTold (numberOf r) (fieldOf r) → PrintedFor r l printed → length printed ≤ listingRoom
+    go (Refused x field) l s told e = rw e (refused-most x field told s)
+    go (Sheet c) l s told d = rw (d .listed) (laid-out-most c l (lent c) (d .after) (s .0) (s .1) (s .2) (d .answer) (d .promise))

@@ -9,16 +9,18 @@ use lib.IntN.{ℤ}
 use Rattle.ground.specs.declared.Refusal.{Refusal}
 use Rattle.ground.specs.declared.Answer.{Answer}
 use Rattle.ground.specs.Entries.{Filled}
-use Rattle.text_rows.specs.Taking.{noField}
+use Rattle.text_rows.specs.Taking.{FieldTold, noField}
 use Rattle.text_reading.specs.declared.Counts.{Counts}
 use Rattle.text_reading.specs.declared.Reading.{Reading}
 use Rattle.text_reading.specs.declared.Reading.the-variants.{Sheet, Refused}
+use Rattle.text_reading.specs.Readings.{fieldOf, numberOf}
 use Rattle.text_reading.specs.Texts.{Lists, Done}
+use Rattle.text_reading.proofs.FieldsTold.{field-told}
 use Rattle.text_reading.specs.Parts.{ReadInto}
 use Rattle.text_listing.specs.Listing.{Listable, Within, listing, listingRoom, refusedRecord}
 use Rattle.sheet_run.specs.Run.{LaidOut, PrintedFor, Run, zeroLists, lentOver, listableRead, zeros}
 use Rattle.sheet_run.specs.Steps.{Holds, Answered, Printed, PrintedRead}
-use Rattle.sheet_run.proofs.Refusals.{SmallReading, small-reading, textNumberMost}
+use Rattle.sheet_run.proofs.Refusals.{SmallReading, small-reading}
 use Rattle.sheet_run.proofs.Enough.{laid-out-most, refused-most, take-most}
 
 -- ---- the sheet that was read
@@ -59,10 +61,12 @@ module _ (text : List ℕ) (r : Reading) (l : Lists) (into : ReadInto text zeroL
   small : SmallReading r l
   small = subst (λ (d : Done). SmallReading (d .answer) (d .lists)) (sym into) (small-reading text zeroLists)
 
+  told : FieldTold (numberOf r) (fieldOf r)
+  told = subst (λ (d : Done). FieldTold (numberOf (d .answer)) (fieldOf (d .answer))) (sym into) (field-told text zeroLists)
+
   pub refusal-most : (x : Refusal) (field : ℕ) → r ≡ Refused x field → length (refusedRecord x field) ≤ listingRoom
   refusal-most x field e =
-      let k : SmallReading (Refused x field) l = subst (λ (q : Reading). SmallReading q l) e small in
-      refused-most textNumberMost (omega arith) x field (k .0) (k .1 .field-most)
+      refused-most x field (subst (λ (q : Reading). FieldTold (numberOf q) (fieldOf q)) e told) (subst (λ (q : Reading). SmallReading q l) e small)
 
   pub within-limits : (c : Counts) → r ≡ Sheet c → SmallReading (Sheet c) l
   within-limits c e = subst (λ (q : Reading). SmallReading q l) e small

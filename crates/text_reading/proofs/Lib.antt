@@ -3,6 +3,7 @@ pub mod ReadLaws
 pub mod Numerals
 pub mod Records
 pub mod Back
+pub mod ReadingCases
 pub mod FieldsTold
 pub mod Examples
 pub mod WrongReadings
