@@ -66,7 +66,7 @@ listableRead c l after = record {
 }
 
 -- the listing of what a layout call that keeps its promise answers, lent w to write;
--- it "prints neither multipliers nor rings", and no field of a sheet that was read. For an accepted sheet the slack printed
+-- it "prints neither multipliers nor rings", and the field of a refused one is 0. For an accepted sheet the slack printed
 -- for a gap is that of its places, and none is negative (`printed-slack`, `printed-held` in proofs/Slacks); of its whole
 -- units `UnitsShown` holds (proofs/Units). Of a refused one `RefusedShown` holds (`run-refusal` in proofs/RefusedRuns).
 pub record LaidFrom (w : Written) (c : Counts) (l : Lists) (printed : List ℕ) : Type 0 where

@@ -98,8 +98,7 @@ fn print_read(
     distance: &[i64],
     out: &mut [u8; LISTING_ROOM],
 ) -> usize
-    requires { let l = listsNow wanted weight left right distance in
-        ⌜ Holds counts l ⌝ }
+    requires { ⌜ Holds counts (listsNow wanted weight left right distance) ⌝ }
     ensures { λ r.
         let l = listsLent wanted weight left right distance in
         ⌜ PrintedRead counts (l .entry) (before out) r (after out) ⌝ }

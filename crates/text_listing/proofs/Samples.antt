@@ -1,5 +1,5 @@
 -- The listings of document 01, "Sheet text": the whole of one run, a refused sheet, and a sheet of no labels; those of
--- document 02, Items 3 and 4; and one whose gaps are not all tight.
+-- document 02, Items 3 to 5; and one whose gaps are not all tight.
 use mathlib.Core.Path.{_≡_, refl}
 use mathlib.Core.List.{List, [], _∷_, _++_}
 use Prim.Native.Nat.{ℕ}

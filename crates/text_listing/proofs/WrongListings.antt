@@ -7,7 +7,6 @@ use native.Mathlib.Omega.{arith}
 use lib.ListN.{length, getD, replicate}
 use lib.IntN.{ℤ, pos, negsuc, natAbs}
 use Rattle.ground.specs.declared.Answer.the-variants.{Placed}
-use Rattle.ground.specs.declared.Refusal.{Refusal}
 use Rattle.exact.specs.declared.Fraction.{Fraction}
 use Rattle.exact.specs.Fraction.{whole}
 use Rattle.single_fractions.specs.Places.{withinPlaces}
@@ -111,34 +110,11 @@ denominator-past = refl
 
 -- ---- the refused record
 
--- the refusal of a bad number in the fourth field of line 31, and of a ring of two gaps
-abbrev slip : Refusal
-slip = record { number = 14; place = 31; ring = 0 }
-
-abbrev ring : Refusal
-ring = record { number = 9; place = 0; ring = 2 }
-
-pub slip-listed : refusedRecord slip 4 ≡ bytes "refused,14,31,4\r\n"
+-- a bad number in the fourth field of line 31: it has four fields and not three, the line before the field, and the field
+-- counted from 1. That of a ring is `ring-listed` in Samples: its length does not stand for the field.
+pub slip-listed : refusedRecord (record { number = 14; place = 31; ring = 0 }) 4 ≡ bytes "refused,14,31,4\r\n"
 unfolding refusedRecord digitsOf
 slip-listed = refl
-
--- there are four fields, with a bad field and without
-pub three-fields : refusedRecord slip 4 ≢ bytes "refused,14,31\r\n"
-unfolding refusedRecord digitsOf
-three-fields = longer (λ e. omega arith)
-
-pub ring-three-fields : refusedRecord ring noField ≢ bytes "refused,9,0\r\n"
-unfolding refusedRecord digitsOf
-ring-three-fields = longer (λ e. omega arith)
-
--- the field does not stand before the line, nor the ring's length for the field
-pub field-before-line : refusedRecord slip 4 ≢ bytes "refused,14,4,31\r\n"
-unfolding refusedRecord digitsOf
-field-before-line = differ 11 (λ e. omega arith)
-
-pub length-for-field : refusedRecord ring noField ≢ bytes "refused,9,0,2\r\n"
-unfolding refusedRecord digitsOf
-length-for-field = differ 12 (λ e. omega arith)
 
 -- ---- what is refused
 

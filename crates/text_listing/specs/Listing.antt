@@ -131,7 +131,7 @@ sheetRecords l = placeRecords (labelsIn l) (l .place-num) (l .place-den) (printe
 unfoldable pub refusedRecord : Refusal → (field : ℕ) → List ℕ
 refusedRecord r field = recordOf refusedWord (decimal (r .number)) (decimal (r .place)) (decimal field)
 
--- the listing of an answer, and for a refused text of its field
+-- the listing of an answer; the field is that of a refused text, else 0
 abbrev pub listing : Answer → (field : ℕ) → Listable → List ℕ
 listing Placed field l = sheetRecords l
 listing (Refused r) field l = refusedRecord r field

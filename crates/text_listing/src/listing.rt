@@ -83,10 +83,10 @@ fn put_refused(buf: &mut [u8], refusal: Refusal, field: usize) -> usize
     ensures { λ r. ⌜ Appended (before buf) 0 (refusedRecord refusal field) (after buf) r ⌝ }
 {
     let word = put_word(buf, 0, b"refused");
-    let first = put_number_field(buf, word, refusal.number as u64);
-    let second = put_number_field(buf, first, refusal.place as u64);
-    let third = put_number_field(buf, second, field as u64);
-    put_end(buf, third)
+    let second = put_number_field(buf, word, refusal.number as u64);
+    let third = put_number_field(buf, second, refusal.place as u64);
+    let fourth = put_number_field(buf, third, field as u64);
+    put_end(buf, fourth)
 }
 
 // A refusal of the listing, whose place is 0.
@@ -187,7 +187,7 @@ fn list_refused(refusal: Refusal, field: usize, out: &mut [u8]) -> Listed
     lay(&text[..end], out)
 }
 
-// Writes the listing of an answer to the front of the buffer; the field is that of a refused text.
+// Writes the listing of an answer to the front of the buffer; the field is that of a refused text, else 0.
 // For a placed sheet 1: more than 48 labels. 2: more than 192 gaps. 3: lists that belong together differ in length.
 // For any answer 4: the buffer is too short.
 pub fn write_listing(

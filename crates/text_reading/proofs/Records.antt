@@ -68,29 +68,29 @@ lines-next (b ∷ bs) rest h =
 
 pub record PlainFields (w a b c : List ℕ) : Type 0 where
   pub word : Each Plain w
-  pub first : Each Plain a
-  pub second : Each Plain b
-  pub third : Each Plain c
+  pub second : Each Plain a
+  pub third : Each Plain b
+  pub fourth : Each Plain c
 
 module _ {w a b c : List ℕ} (p : PlainFields w a b c) where
   pub line-fields : fields (lineOf w a b c) ≡ w ∷ a ∷ b ∷ c ∷ []
   line-fields =
       rw (
         fields-next w _ (no-comma w (p .word)),
-        fields-next a _ (no-comma a (p .first)),
+        fields-next a _ (no-comma a (p .second)),
         fields-next b _ (no-comma b
-            (p .second)),
-        fields-last c (no-comma c (p .third)),
+            (p .third)),
+        fields-last c (no-comma c (p .fourth)),
       )
 
   line-no-end : Each NoEnd (lineOf w a b c)
   line-no-end =
       each-append NoEnd w (next a ++ (next b ++ next c)) (no-end w (p .word)) (
         omega arith,
-        each-append NoEnd a (next b ++ next c) (no-end a (p .first)) (
+        each-append NoEnd a (next b ++ next c) (no-end a (p .second)) (
           omega arith,
-          each-append NoEnd b (next c) (no-end b (p .second))
-              (omega arith, no-end c (p .third)),
+          each-append NoEnd b (next c) (no-end b (p .third))
+              (omega arith, no-end c (p .fourth)),
         ),
       )
 
@@ -114,18 +114,18 @@ label-fields :
     (i : ℕ) (r : LabelRow) → PlainFields labelWord (decimal i) (signedDecimal (r .wanted)) (signedDecimal (r .weight))
 label-fields i r = record {
   word = omega arith;
-  first = decimal-plain i;
-  second = signed-plain (r .wanted);
-  third = signed-plain (r .weight);
+  second = decimal-plain i;
+  third = signed-plain (r .wanted);
+  fourth = signed-plain (r .weight);
 }
 
 gap-fields :
     (g : GapRecord) → PlainFields gapWord (decimal (g .left)) (decimal (g .right)) (signedDecimal (g .distance))
 gap-fields g = record {
   word = omega arith;
-  first = decimal-plain (g .left);
-  second = decimal-plain (g .right);
-  third = signed-plain (g .distance);
+  second = decimal-plain (g .left);
+  third = decimal-plain (g .right);
+  fourth = signed-plain (g .distance);
 }
 
 abbrev pub labelLine : ℕ → LabelRow → List ℕ

@@ -97,6 +97,7 @@ pub record Done : Type 0 where
 abbrev pub refusedWith : (number place field : ℕ) → Lists → Done
 refusedWith number place field b = record { answer = refusal number place field; lists = b }
 
+-- how many labels and gaps there are
 abbrev pub countsOf : Typed → Counts
 countsOf t = record { labels = length (t .labels); gaps = length (t .gaps) }
 

@@ -125,8 +125,7 @@ fn hand_over(
     right: &mut [usize],
     distance: &mut [i64],
 ) -> Reading
-    requires { let work = listsNow d w u v g in
-        ⌜ WorkArrays work ⌝ }
+    requires { ⌜ WorkArrays (listsNow d w u v g) ⌝ }
     ensures { λ r.
         let l = listsLent wanted weight left right distance in
         let work = listsLent d w u v g in

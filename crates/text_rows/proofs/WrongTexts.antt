@@ -142,9 +142,9 @@ pub first-of-three : taken (after 0) (bytes "label,x,y,z") ≡ Bad 14 2
 unfolding fields allDigits valueOf number signed weightOf same rowOf
 first-of-three = refl
 
-pub second-of-three : taken (after 0) (bytes "label,0,y,z") ≡ Bad 14 3
+pub first-of-two : taken (after 0) (bytes "label,0,y,z") ≡ Bad 14 3
 unfolding fields allDigits valueOf number signed weightOf same rowOf
-second-of-three = refl
+first-of-two = refl
 
 -- so with a gap, whose left and right labels have no sign either
 pub gap-left : taken (after 0) (bytes "gap,-1,y,z") ≡ Bad 14 2

@@ -46,8 +46,8 @@ abbrev pub recordEnd : List ℕ
 recordEnd = carriageReturn ∷ lineFeed ∷ []
 
 -- four fields joined: as a line, and as a record with its end
-abbrev pub lineOf : (word first second third : List ℕ) → List ℕ
+abbrev pub lineOf : (word second third fourth : List ℕ) → List ℕ
 lineOf word a b c = word ++ (next a ++ (next b ++ next c))
 
-abbrev pub recordOf : (word first second third : List ℕ) → List ℕ
+abbrev pub recordOf : (word second third fourth : List ℕ) → List ℕ
 recordOf word a b c = word ++ (next a ++ (next b ++ (next c ++ recordEnd)))

@@ -88,17 +88,17 @@ fn gap_row(left: &[u8], right: &[u8], distance: &[u8]) -> Taken
     }))
 }
 
-// A record of four fields, by its first.
-fn row_of(word: &[u8], first: &[u8], second: &[u8], third: &[u8], earlier: Earlier) -> Taken
+// A record of four fields, by the word in the first.
+fn row_of(word: &[u8], second: &[u8], third: &[u8], fourth: &[u8], earlier: Earlier) -> Taken
     ensures { λ r.
-        let fields = before word ∷ before first ∷ before second ∷ before third ∷ [] in
+        let fields = before word ∷ before second ∷ before third ∷ before fourth ∷ [] in
         ⌜ r ≡ rowOf earlier fields ⌝ }
 {
     if field::is_word(word, b"label") {
-        return label_row(first, second, third, earlier);
+        return label_row(second, third, fourth, earlier);
     }
     if field::is_word(word, b"gap") {
-        return gap_row(first, second, third);
+        return gap_row(second, third, fourth);
     }
     Taken::Bad(13, KIND)
 }

@@ -84,12 +84,6 @@ fn words_of_texts() {
     }
 }
 
-#[test]
-fn words_of_rings() {
-    assert_eq!(refusal(9, 0, 1).to_string(), "ring of 1 gap");
-    assert_eq!(refusal(9, 0, 48).to_string(), "ring of 48 gaps");
-}
-
 /// Any numbers may stand in the fields: there are words for all, and a field is told with 13 to 15 alone.
 #[test]
 fn words_of_any_numbers() {

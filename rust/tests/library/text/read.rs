@@ -201,6 +201,7 @@ fn many_records() {
         (48, 192, 0),
         (49, 0, 1),
         (49, 193, 1),
+        (700, 0, 1),
         (0, 193, 2),
         (0, 0, 0),
     ] {
@@ -214,6 +215,17 @@ fn many_records() {
         let short = if number == 0 && labels > 0 { 4 } else { number };
         assert_eq!(check(&text, &Sheet::default()), (short, 0, 0));
     }
+}
+
+/// A bad line far behind the last that a byte could count.
+#[test]
+fn bad_line_far_behind() {
+    let lists = any_lists(&mut Random::new(28_000_000), [1; 5]);
+    let mut labels: String = (0..300).map(|i| format!("label,{i},0,1\n")).collect();
+    labels += "label,44,0,1\n";
+    assert_eq!(check(labels.as_bytes(), &lists), (15, 301, 2));
+    let gaps = "gap,0,0,0\n".repeat(1_000) + "x\n";
+    assert_eq!(check(gaps.as_bytes(), &lists), (10, 1_001, 0));
 }
 
 /// A text of 16,384 bytes is read, and one byte more is refused whatever it holds.

@@ -23,7 +23,7 @@ pub fn read(text: &[u8]) -> Result<Sheet, Refused> {
     }
 }
 
-/// The lines without their ends: a LF, or a CR and a LF. The last end may lack, and then a CR is no part of it.
+/// The lines without their ends: a LF, or a CR and a LF. The last end may lack, and then a CR belongs to its field.
 fn lines(text: &[u8]) -> Vec<&[u8]> {
     let mut lines: Vec<&[u8]> = text.split_inclusive(|&byte| byte == b'\n').collect();
     for line in &mut lines {

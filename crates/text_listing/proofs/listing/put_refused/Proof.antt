@@ -51,24 +51,24 @@ put-end-requires c κs =
 
 same-length : tie.Need-same-length
 same-length c =
-    let third = c .before .before .before .before .before .before in
+    let fourth = c .before .before .before .before .before .before in
+    let third = fourth .before .before .before .before in
     let second = third .before .before .before .before in
-    let first = second .before .before .before .before in
-    let word = first .before .before .before .before in
-    c .before .before .put-end .kept .0 ∙ third .put-number-field3 .kept .0 ∙ second .put-number-field2 .kept .0
-    ∙ first .put-number-field .kept .0 ∙ word .put-word .kept .0
+    let word = second .before .before .before .before in
+    c .before .before .put-end .kept .0 ∙ fourth .put-number-field3 .kept .0 ∙ third .put-number-field2 .kept .0
+    ∙ second .put-number-field .kept .0 ∙ word .put-word .kept .0
 
 returns : tie.Need-returns
 unfolding refusedRecord
 returns c =
-    let third = c .before .before .before .before .before .before in
+    let fourth = c .before .before .before .before .before .before in
+    let third = fourth .before .before .before .before in
     let second = third .before .before .before .before in
-    let first = second .before .before .before .before in
-    let word = first .before .before .before .before in
+    let word = second .before .before .before .before in
     then (copied refusedWord (omega arith) (word .put-word .ensures .0) (word .put-word .ensures .1))
-    (then (first .put-number-field .ensures)
-    (then (second .put-number-field2 .ensures)
-    (then (third .put-number-field3 .ensures)
+    (then (second .put-number-field .ensures)
+    (then (third .put-number-field2 .ensures)
+    (then (fourth .put-number-field3 .ensures)
     (c .before .before .put-end .ensures))))
 
 pub put-refused-spec : {M : Type 1} → statement M
