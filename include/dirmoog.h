@@ -25,7 +25,7 @@
  *   10   bad line      a line without four fields                                                           line, from 1
  *   11   long text     the text is above 16,384 bytes                                                       0
  *   12   bad fraction  a denominator outside 1 to 4,800, or a numerator beyond 5,472,000,000 either way     0
- *   13   unknown kind  the first field is neither label nor gap                                             line, from 1
+ *   13   unknown word  the first field is neither label nor gap                                             line, from 1
  *   14   bad number    a number breaks its rule, which dirmoog_read's comment has                           line, from 1
  *   15   out of turn   a label's number is not the count of labels before it                                line, from 1
  *

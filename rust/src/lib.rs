@@ -51,8 +51,8 @@ mod words;
 
 pub use text::{read_sheet, write_listing, Counts, Listable, Listed, Lists, Reading, TextRefusal};
 
-/// A refusal: its number in the refusal table, its place (a label, a gap or a line, else 0) and,
-/// with 9, the ring's length.
+/// A refusal: its number in the refusal table, its place (a label or a gap, from 0, or a line, from 1;
+/// else 0) and, with 9, the ring's length.
 #[derive(Clone, Copy, Debug, PartialEq, Eq)]
 pub struct Refusal {
     pub number: u64,

@@ -5,8 +5,8 @@
 //! enough, and nothing checks it (the header has the figures).
 //!
 //! What fits into `out` is written, and the rest is lost: one of 1 entry loses the ring's length
-//! ([`dirmoog_layout`]), the denominator ([`dirmoog_slack`]) or the count of gaps or the bad field
-//! ([`dirmoog_read`]), and an empty one all but the number that is returned.
+//! ([`dirmoog_layout`]), the denominator ([`dirmoog_slack`]), the count of gaps or, of a refused text,
+//! the bad field ([`dirmoog_read`]); an empty one loses all but the number that is returned.
 
 extern "C" {
     pub fn dirmoog_layout(

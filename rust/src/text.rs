@@ -78,9 +78,10 @@ pub struct Lists<'a> {
 /// Reads a sheet's text into the front of lent lists. The entries beyond stay; a refused text writes nothing. A weight
 /// that is left blank in the text is read as 10; a weight of 0 is no blank one, and [`lay_out`](crate::lay_out) refuses it.
 ///
-/// A text is refused, in this order, with 11 if it is too long; else at the first bad line, with 10 if that has not four
-/// fields, 13 if its first field is neither kind, 14 at the first number that breaks its rule, 15 if a label's number is
-/// out of turn; else with 1 for too many labels, 2 for too many gaps, 4 if a list is too short.
+/// A text is refused, in this order, with 11 if it is too long; else at the first bad line, with 10 if that is without
+/// four fields, 13 if its first field is neither label nor gap, 14 at the first number that breaks its rule, 15 if a
+/// label's number is out of turn; else with 1 for too many labels, 2 for too many gaps, 4 if a list is too short. The
+/// rules are those of `dirmoog_read` in include/dirmoog.h.
 ///
 /// ```
 /// use dirmoog::{read_sheet, Counts, Lists, Reading, Refusal, TextRefusal};
@@ -154,8 +155,9 @@ pub struct Listable<'a> {
 /// listing. A slack is 0/1 where an end of the gap is no label, and where [`slack`](crate::slack)
 /// refuses it.
 ///
-/// The field is that of a [`TextRefusal`], and 0 for an answer of [`lay_out`](crate::lay_out). The
-/// refusal's record shows it as it is.
+/// A refusal's record is the word refused, number, place and field. The field is that of a
+/// [`TextRefusal`], and 0 for an answer of [`lay_out`](crate::lay_out); it is shown as it is, and is
+/// without effect for a placed sheet.
 ///
 /// The whole unit of a place is what [`round_half_up`](crate::round_half_up) gives, and 0 where that
 /// refuses it. The whole units of places that [`lay_out`](crate::lay_out) wrote meet every gap.

@@ -1,4 +1,4 @@
-//! Refusals in words, for people. Any numbers may stand in their fields.
+//! Refusals in words, for people. A refusal may hold any numbers.
 use crate::{Refusal, TextRefusal};
 use std::error::Error;
 use std::fmt::{Display, Formatter, Result};
@@ -17,7 +17,7 @@ const WORDS: [&str; 15] = [
     "bad line",
     "long text",
     "bad fraction",
-    "unknown kind",
+    "unknown word",
     "bad number",
     "out of turn",
 ];

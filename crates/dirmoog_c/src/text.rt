@@ -100,7 +100,7 @@ fn listed_bytes(listed: Listed) -> usize
     }
 }
 
-// Writes the listing of an answer to the front of text.
+// Writes the listing of an answer to the front of text; a refusal's field is printed as it is handed.
 // Gives 0 or the refusal's number; out is told the count of bytes, 0 where it is refused. No place is told: it is
 // always 0.
 #[no_mangle]

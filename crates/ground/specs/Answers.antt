@@ -1,5 +1,6 @@
 -- The answer of a layout call: document 01's number and values for each of its cases.
--- Those of Rounded, SlackAnswer, Reading, Listed and Checked stand beside their enum; their refused cases carry the same struct.
+-- Those of Rounded, SlackAnswer, Reading, Listed and Checked stand beside their enum; their refused cases carry the same struct,
+-- that of Reading with a line's bad field beside it.
 use Prim.Native.Nat.{ℕ}
 use Rattle.ground.specs.declared.Answer.{Answer}
 use Rattle.ground.specs.declared.Answer.the-variants.{Placed, Refused}

@@ -21,7 +21,7 @@ pub struct GapRecord {
     pub distance: i64,
 }
 
-// A refusal of document 01: its number, its place, and with 9 the ring's length (else 0). All answers share it.
+// A refusal: its number, its place, and with 9 the ring's length (else 0). Every answer that may be refused has it.
 pub struct Refusal {
     pub number: usize,
     pub place: usize,

@@ -1,4 +1,4 @@
--- What a run of the station prints for a text (document 01, "Sheet text").
+-- What a run of the station prints for a text (document 01, "Sheet text"; document 02, Items 1, 4 and 5).
 use Prim.Native.Nat.{ℕ, _≤_, _<_}
 use mathlib.Core.Path.{_≡_}
 use mathlib.Core.Bool.{true}
@@ -68,7 +68,7 @@ listableRead c l after = record {
 -- the listing of what a layout call that keeps its promise answers, lent w to write;
 -- it "prints neither multipliers nor rings", and the field of a refused one is 0. For an accepted sheet the slack printed
 -- for a gap is that of its places, and none is negative (`printed-slack`, `printed-held` in proofs/Slacks); of its whole
--- units `UnitsShown` holds (proofs/Units). Of a refused one `RefusedShown` holds (`run-refusal` in proofs/RefusedRuns).
+-- units `UnitsShown` holds (proofs/Units). Of a refused one `RefusedShown` holds (`sheet-refused` in proofs/RefusedRuns).
 pub record LaidFrom (w : Written) (c : Counts) (l : Lists) (printed : List ℕ) : Type 0 where
   pub answer : Answer
   pub after : Written

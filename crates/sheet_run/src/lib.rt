@@ -56,7 +56,8 @@ fn lay_out_read(
     )
 }
 
-// Prints an answer with the places of its labels and the slacks of its gaps, and tells how many bytes.
+// Prints an answer, a refused one with its field, a placed one with the places of its labels and the slacks of its gaps,
+// and tells how many bytes.
 fn print(
     answer: Answer,
     field: usize,

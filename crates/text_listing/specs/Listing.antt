@@ -131,7 +131,7 @@ sheetRecords l = placeRecords (labelsIn l) (l .place-num) (l .place-den) (printe
 unfoldable pub refusedRecord : Refusal → (field : ℕ) → List ℕ
 refusedRecord r field = recordOf refusedWord (decimal (r .number)) (decimal (r .place)) (decimal field)
 
--- the listing of an answer; the field is that of a refused text, else 0
+-- the listing of an answer; a field is printed as it is handed, and that of a run is right by `RefusedShown` (sheet_run)
 abbrev pub listing : Answer → (field : ℕ) → Listable → List ℕ
 listing Placed field l = sheetRecords l
 listing (Refused r) field l = refusedRecord r field

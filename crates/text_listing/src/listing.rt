@@ -187,7 +187,8 @@ fn list_refused(refusal: Refusal, field: usize, out: &mut [u8]) -> Listed
     lay(&text[..end], out)
 }
 
-// Writes the listing of an answer to the front of the buffer; the field is that of a refused text, else 0.
+// Writes the listing of an answer to the front of the buffer. A refusal's field is printed as it is handed: that of a
+// refused text, or none.
 // For a placed sheet 1: more than 48 labels. 2: more than 192 gaps. 3: lists that belong together differ in length.
 // For any answer 4: the buffer is too short.
 pub fn write_listing(

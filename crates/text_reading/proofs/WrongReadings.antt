@@ -20,7 +20,7 @@ pub bad-line-told : outcome (bytes "label,0,0,1\r\nlabel,5,0,1\r\nx\r\n") ≡ ba
 unfolding lines fields allDigits valueOf number signed weightOf same rowOf readFrom
 bad-line-told = refl
 
--- a line of an unknown kind after 49 labels is 13 at its line; that 1 does not come before it is `line-first`
+-- a line with an unknown word after 49 labels is 13 at its line; that 1 does not come before it is `line-first`
 abbrev labels-49 : Typed
 labels-49 = record { labels = replicate 49 (record { wanted = pos 0; weight = pos 1 }); gaps = [] }
 

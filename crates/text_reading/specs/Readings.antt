@@ -23,8 +23,8 @@ abbrev pub gapsOf : Reading → ℕ
 gapsOf (Sheet counts) = counts .gaps
 gapsOf (Refused r field) = 0
 
--- its field, which stands beside the refusal's number and place: "for 13 to 15 the bad field counted from 1, else 0". That
--- it is so of every text is `FieldTold` (`field-told` in proofs/FieldsTold).
+-- its field, which stands beside the refusal's number and place: "for 13 to 15 the bad field counted from 1, else 0". Which
+-- field can go with which number is `FieldTold` (of every text: `field-told` in proofs/FieldsTold).
 abbrev pub fieldOf : Reading → ℕ
 fieldOf (Sheet counts) = noField
 fieldOf (Refused r field) = field

@@ -36,7 +36,7 @@ abbrev pub add : Typed → Row → Typed
 add t (Label r) = record { labels = t .labels ++ (r ∷ []); gaps = t .gaps }
 add t (Gap g) = record { labels = t .labels; gaps = t .gaps ++ (g ∷ []) }
 
--- what came before a line: the labels so far
+-- what came before a line: the count of labels so far
 abbrev pub earlierOf : Typed → Earlier
 earlierOf t = record { labels = length (t .labels) }
 

@@ -13,7 +13,8 @@ pub struct Counts {
     pub gaps: usize,
 }
 
-// The answer of the reader: a sheet of so many labels and gaps, or a refusal and, beside it, the bad field of its line.
+// The answer of the reader: a sheet of so many labels and gaps, or a refusal and, beside it, the bad field of its line, if
+// there is one.
 pub enum Reading {
     Sheet(Counts),
     Refused(Refusal, usize),

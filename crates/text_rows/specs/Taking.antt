@@ -64,7 +64,8 @@ abbrev pub fieldAt : List (List ℕ) → ℕ → List ℕ
 fieldAt fs zero = []
 fieldAt fs (suc k) = getD fs k []
 
--- "10 is left for a line without four fields. A first field that is neither kind is 13": 10, then 13, then the rest
+-- "10 is left for a line without four fields. A first field that is neither kind is 13": 10, then 13, then the rest. "Blank
+-- lines are bad lines": a blank one has one field
 unfoldable pub rowOf : Earlier → List (List ℕ) → Taken
 rowOf earlier fs =
     cond (eqb (length fs) 4)
@@ -76,8 +77,9 @@ rowOf earlier fs =
 abbrev pub taken : Earlier → List ℕ → Taken
 taken earlier line = rowOf earlier (fields line)
 
--- "for 13 to 15 the bad field counted from 1, else 0", of a number that is told for a text or a sheet and the field beside
--- it: 13 names the first field, 14 the second to the fourth, 15 the second, and no other number one
+-- "for 13 to 15 the bad field counted from 1, else 0": which field may stand beside a number that is told for a text or a
+-- sheet. 13 names the first field, 15 the second, and no number but these and 14 names one; 14 names the second to the
+-- fourth, and which of them it is, `taken` says
 pub record FieldTold (number field : ℕ) : Type 0 where
   pub none : number < 13 → field ≡ noField
   pub kind : number ≡ 13 → field ≡ 1

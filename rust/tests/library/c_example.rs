@@ -1,6 +1,6 @@
 //! Programs in C are compiled with the header and the static library and run: the example on texts, and the calls over
 //! single fractions.
-use crate::sheet::file;
+use crate::sheet::{file, labels_text};
 use std::fs::File;
 use std::io::Write;
 use std::path::{Path, PathBuf};
@@ -93,6 +93,8 @@ fn bad_texts(program: &Path) {
     }
     let slip = file("typing-slip.csv");
     assert_eq!(printed(program, &slip), "refused,14,5,4\r\n");
+    let beyond = labels_text(49) + "x,0,0,1\n";
+    assert_eq!(printed(program, beyond.as_bytes()), "refused,13,50,1\r\n");
 }
 
 /// A directory cannot be read, and a full device takes no listing.

@@ -1,4 +1,5 @@
 //! Lists for the answer that are shorter or longer than needed: what fits is told, and the entries beyond stay.
+use crate::sheet::labels_text;
 use dirmoog::raw;
 
 /// A sheet of two labels and two gaps with a distance that decides how it comes out.
@@ -128,7 +129,7 @@ fn read(text: &[u8], out: &mut [u64]) -> u64 {
 /// A sheet tells its counts of labels and gaps, a refused text its place and its field.
 #[test]
 fn read_tells_what_fits() {
-    let labels: String = (0..49).map(|i| format!("label,{i},0,1\n")).collect();
+    let labels = labels_text(49);
     for (text, number, told) in [
         (&b"label,0,7,\ngap,0,0,0\n"[..], 0, [1, 1]),
         (b"", 0, [0, 0]),

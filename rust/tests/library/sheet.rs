@@ -26,6 +26,11 @@ pub fn file(name: &str) -> Vec<u8> {
     std::fs::read(sheets.join(name)).expect("the sheet")
 }
 
+/// The text of so many labels, all wanted at 0 with weight 1.
+pub fn labels_text(count: usize) -> String {
+    (0..count).map(|i| format!("label,{i},0,1\n")).collect()
+}
+
 impl Sheet {
     pub fn label(&mut self, wanted: i64, weight: i64) {
         self.wanted.push(wanted);

@@ -74,7 +74,7 @@ fn words_of_texts() {
         (4, 0, 0, "short room"),
         (10, 2, 0, "bad line: line 2"),
         (11, 0, 0, "long text"),
-        (13, 1, 1, "unknown kind: line 1, first field"),
+        (13, 1, 1, "unknown word: line 1, first field"),
         (14, 31, 2, "bad number: line 31, second field"),
         (14, 31, 3, "bad number: line 31, third field"),
         (14, 31, 4, "bad number: line 31, fourth field"),
@@ -84,7 +84,7 @@ fn words_of_texts() {
     }
 }
 
-/// Any numbers may stand in the fields: there are words for all, and a field is told with 13 to 15 alone.
+/// A refusal may hold any numbers: there are words for all, and a field is told with 13 to 15 alone.
 #[test]
 fn words_of_any_numbers() {
     for (number, place, field, words) in [
@@ -95,7 +95,7 @@ fn words_of_any_numbers() {
         (10, 3, 3, "bad line: line 3"),
         (11, 3, 3, "long text"),
         (12, 3, 3, "bad fraction"),
-        (13, 0, 0, "unknown kind: line 0, field 0"),
+        (13, 0, 0, "unknown word: line 0, field 0"),
         (14, 3, 5, "bad number: line 3, field 5"),
         (14, 3, 7, "bad number: line 3, field 7"),
         (
@@ -132,7 +132,7 @@ fn refusals_are_errors() {
     assert_eq!(handed_on(Reading::Sheet(counts)).expect("a sheet"), counts);
     let told = of_text(13, 4, 1);
     let error = handed_on(Reading::Refused(told)).expect_err("an error");
-    assert_eq!(error.to_string(), "unknown kind: line 4, first field");
+    assert_eq!(error.to_string(), "unknown word: line 4, first field");
     assert_eq!(error.downcast_ref(), Some(&told));
     assert!(error.source().is_none());
     let error: Box<dyn Error> = refusal(7, 3, 0).into();

@@ -4,7 +4,7 @@ use super::typed::{damage, misplaced, slipped, typed, Slipped};
 use crate::generate::{sheet, BLANK_WEIGHT, KINDS};
 use crate::generated::Case;
 use crate::random::Random;
-use crate::sheet::Sheet;
+use crate::sheet::{labels_text, Sheet};
 use dirmoog::{read_sheet, Counts, Lists, Reading, Refusal, TextRefusal};
 use std::collections::BTreeMap;
 
@@ -221,8 +221,7 @@ fn many_records() {
 #[test]
 fn bad_line_far_behind() {
     let lists = any_lists(&mut Random::new(28_000_000), [1; 5]);
-    let mut labels: String = (0..300).map(|i| format!("label,{i},0,1\n")).collect();
-    labels += "label,44,0,1\n";
+    let labels = labels_text(300) + "label,44,0,1\n";
     assert_eq!(check(labels.as_bytes(), &lists), (15, 301, 2));
     let gaps = "gap,0,0,0\n".repeat(1_000) + "x\n";
     assert_eq!(check(gaps.as_bytes(), &lists), (10, 1_001, 0));

@@ -11,7 +11,7 @@ use crate::random::Random;
 use crate::records::Records;
 use crate::refusals;
 use crate::rounding::{away_from_zero, units_of};
-use crate::sheet::{file, Sheet};
+use crate::sheet::{file, labels_text, Sheet};
 use crate::solver;
 use dirmoog::{Answer, Listable};
 use std::path::Path;
@@ -164,7 +164,7 @@ fn which_field_of_the_line() {
     // a LF behind this CR would make it the line's end
     prints(b"label,0,0,1\r", "refused,14,1,4\r\n");
     prints(b"label,0,0,1\r\n", "place,0,0,1,0\r\n");
-    // neither has a line
+    // neither refusal names a line
     prints(&[b'x'; 16_385], "refused,11,0,0\r\n");
     prints(&file("ring.csv"), "refused,9,0,0\r\n");
 }
@@ -175,16 +175,17 @@ const ENDS: [&str; 3] = ["", "\n", "\r\n"];
 /// A bad line comes before 1 and 2, also where it stands behind what they refuse, and 11 before all.
 #[test]
 fn bad_lines_beyond_the_limits() {
-    let labels: String = (0..49).map(|i| format!("label,{i},0,1\n")).collect();
+    let labels = labels_text(49);
     let gaps = "gap,0,0,0\n".repeat(193);
+    prints(labels.as_bytes(), "refused,1,0,0\r\n");
+    prints(gaps.as_bytes(), "refused,2,0,0\r\n");
     for (bad, number, field) in [
         ("x", 10, 0),
         ("x,0,0,1", 13, 1),
         ("label,50,x,1", 14, 3),
         ("label,48,0,1", 15, 2),
     ] {
-        for (before, limit, line) in [(&labels, 1, 50), (&gaps, 2, 194)] {
-            prints(before.as_bytes(), &format!("refused,{limit},0,0\r\n"));
+        for (before, line) in [(&labels, 50), (&gaps, 194)] {
             let text = format!("{before}{bad}\n");
             let record = format!("refused,{number},{line},{field}\r\n");
             prints(text.as_bytes(), &record);
