@@ -3,5 +3,7 @@ pub mod FieldLaws
 pub mod AnswerLaws
 pub mod LineLaws
 pub mod Decimal
+pub mod LineCases
 pub mod BadLines
+pub mod TakenBytes
 pub mod WrongTexts

@@ -25,7 +25,7 @@ startsWith b [] = false
 startsWith b (c ∷ cs) = eqb c b
 
 -- "Records end in CRLF; a bare LF is also taken, and the last end may lack.
--- A CR that is not just before a LF belongs to its field"
+-- A CR that is not just before a LF belongs to its field, and so makes a bad line" (`no-return` in proofs/TakenBytes)
 unfoldable pub lines : List ℕ → List (List ℕ)
 lines [] = []
 lines (b ∷ bs) =
@@ -33,7 +33,8 @@ lines (b ∷ bs) =
     (cond (eqb b carriageReturn && startsWith lineFeed bs) (lines bs)
     (push b (lines bs)))
 
--- "comma-separated records .. Quotes are not taken": a quote is a byte like any other
+-- "comma-separated records .. Quotes are not taken": a quote is a byte like any other, and stands in no line that is taken
+-- (`no-quote` in proofs/TakenBytes)
 unfoldable pub fields : List ℕ → List (List ℕ)
 fields [] = [] ∷ []
 fields (b ∷ bs) = cond (eqb b comma) ([] ∷ fields bs) (push b (fields bs))

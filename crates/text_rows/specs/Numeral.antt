@@ -30,7 +30,7 @@ unfoldable pub valueOf : ℕ → List ℕ → ℕ
 valueOf n [] = n
 valueOf n (b ∷ bs) = valueOf (10 * n + (b - digitZero)) bs
 
--- "A number is 1 to 9 digits, leading zeros allowed"
+-- "A number is 1 to 9 digits, leading zeros allowed"; so none is blank
 abbrev pub digitsMost : ℕ
 digitsMost = 9
 
