@@ -1,5 +1,5 @@
--- Wrong runs of document 01's text, of document 02's mixed sheet (Item 3), of its labels that cross (Item 4) and of a text
--- with a weight of zero: what the promise of a run says against each. Nothing cites them.
+-- Wrong runs of document 01's text, of document 02's mixed sheet (Item 3), of its labels that cross (Item 4), of a text with
+-- a weight of zero and of one that is refused: what the promise of a run says against each. Nothing cites them.
 use Prim.Native.Nat.{ℕ}
 use mathlib.Core.Path.{_≡_, refl, sym, ap, _∙_}
 use mathlib.Core.List.{List, [], _∷_, _++_}
@@ -21,10 +21,15 @@ use Rattle.text_listing.proofs.Samples.{first-record, second-record, slack-reco
 use Rattle.sheet_run.specs.Run.{LaidOut, Run, zeroLists, listableRead}
 use Rattle.sheet_run.proofs.PlacedRuns.{laid-out}
 use Rattle.sheet_run.proofs.Document.{document-prints, mixed-prints, crossing-prints}
+use Rattle.sheet_run.proofs.RefusedRuns.{blank-prints}
 
 -- the listing is written, and no byte of it is told
 pub nothing-told : {before after : List ℕ} → Run document-text before 0 after → ⊥
 nothing-told r = let first : _≡_ {A = ℕ} 0 112 = ap (λ (l : List ℕ). getD l 0 0) (document-prints r) in omega arith
+
+-- a refused text prints nothing, as a sheet of no labels does: here a blank line
+pub refusal-unprinted : {before after : List ℕ} → Run (bytes "\r\n") before 0 after → ⊥
+refusal-unprinted r = let first : _≡_ {A = ℕ} 0 114 = ap (λ (l : List ℕ). getD l 0 0) (blank-prints r) in omega arith
 
 -- numerators and denominators change places: the first record's numerator is 2, and not -3
 pub places-swapped :
