@@ -15,20 +15,34 @@
 #include "variable.h"
 
 extern "C" uint64_t dirmoog_layout(
-    const int64_t *wanted, uint64_t, const int64_t *weight, uint64_t, const uint64_t *left, uint64_t, const uint64_t *right, uint64_t,
-    const int64_t *distance, uint64_t, uint8_t *carried, uint64_t, int64_t *place_num, uint64_t, int64_t *place_den, uint64_t,
-    int64_t *mult_num, uint64_t, int64_t *mult_den, uint64_t, uint64_t *ring, uint64_t, uint64_t *out, uint64_t);
+    const int64_t *wanted, size_t, const int64_t *weight, size_t, const uint64_t *left, size_t, const uint64_t *right, size_t,
+    const int64_t *distance, size_t, const uint8_t *kind, size_t, uint8_t *carried, size_t, int64_t *place_num, size_t,
+    int64_t *place_den, size_t, int64_t *mult_num, size_t, int64_t *mult_den, size_t, uint64_t *ring, size_t, uint8_t *back, size_t,
+    uint64_t *out, size_t);
 
 // Each sheet is timed so many times, and the least time counts.
 static const int ROUNDS = 50;
 
+// The kinds of a gap.
+enum Kind : uint8_t { AT_LEAST, EXACTLY };
+
 struct Sheet {
     std::vector<int64_t> wanted, weight, distance;
     std::vector<uint64_t> left, right;
+    std::vector<uint8_t> kind;
 
     void label(int64_t want, int64_t w) { wanted.push_back(want); weight.push_back(w); }
-    void gap(uint64_t u, uint64_t v, int64_t g) { left.push_back(u); right.push_back(v); distance.push_back(g); }
-    void equal(uint64_t u, uint64_t v, int64_t g) { gap(u, v, g); gap(v, u, -g); }
+    void gap(uint64_t u, uint64_t v, int64_t g, uint8_t k = AT_LEAST) {
+        left.push_back(u), right.push_back(v), distance.push_back(g), kind.push_back(k);
+    }
+    void opposite(uint64_t u, uint64_t v, int64_t g) { gap(u, v, g); gap(v, u, -g); }
+    // The least distance from label u to label v, by the gaps between neighbours.
+    int64_t least(uint64_t u, uint64_t v) const {
+        int64_t sum = 0;
+        for (size_t e = 0; e < left.size(); e++)
+            if (u <= left[e] && right[e] <= v && right[e] == left[e] + 1 && kind[e] == AT_LEAST) sum += distance[e];
+        return sum;
+    }
 };
 
 // A fixed sequence of numbers, the same on every machine.
@@ -43,8 +57,9 @@ struct Dice {
     int64_t from(int64_t least, int64_t most) { return least + (int64_t)(next() % (uint64_t)(most - least + 1)); }
 };
 
-// A strip of 48 labels of several widths in groups, each wanted near its terminal. Groups keep a distance from each other.
-static Sheet strip(Dice &d) {
+// A strip of 48 labels of several widths in groups, each wanted near its terminal; terminals are farther apart by the room. Groups
+// keep a distance from each other.
+static Sheet roomy_strip(Dice &d, int64_t room) {
     Sheet s;
     int64_t x = d.from(-20000, 0), width = 0, before = 0;
     uint64_t first = 0;
@@ -52,7 +67,7 @@ static Sheet strip(Dice &d) {
         bool opens = rest == 0;
         if (opens) rest = (uint64_t)d.from(3, 8);
         width = 100 * d.from(4, 12);
-        x += (before + width) / 2 + d.from(-200, 150) + (opens ? d.from(0, 800) : 0);
+        x += (before + width) / 2 + room + d.from(-200, 150) + (opens ? d.from(0, 800) : 0);
         s.label(x + d.from(-300, 300), d.from(0, 9) == 0 ? 100 : d.from(1, 5));
         if (i > 0) s.gap(i - 1, i, (before + width) / 2 + (opens ? 200 : 0));
         if (opens && i > 0) s.gap(first, i, 2000);
@@ -61,6 +76,8 @@ static Sheet strip(Dice &d) {
     }
     return s;
 }
+
+static Sheet strip(Dice &d) { return roomy_strip(d, 0); }
 
 // 48 labels with 192 gaps between any two of them.
 static Sheet dense(Dice &d) {
@@ -76,14 +93,39 @@ static Sheet dense(Dice &d) {
 // A strip on which pairs of labels keep an exact distance, as two opposite gaps.
 static Sheet equalities(Dice &d) {
     Sheet s = strip(d);
+    for (uint64_t i = 0; i + 2 < 48; i += 4) s.opposite(i, i + 2, s.least(i, i + 2) + d.from(0, 500));
+    return s;
+}
+
+// Joins two labels of a strip: farther apart than they are wanted, or as much closer as the gaps between them allow.
+static void join(Sheet &s, Dice &d, uint64_t u, uint64_t v) {
+    int64_t least = s.least(u, v) + d.from(0, 50), wanted = s.wanted[v] - s.wanted[u];
+    s.gap(u, v, std::max(least, wanted + d.from(-400, 400)), EXACTLY);
+}
+
+// A strip with more or less room and 12 markers: every third has three parts, joined by two exact gaps, the others have two.
+static Sheet joined(Dice &d) {
+    Sheet s = roomy_strip(d, 100 * d.from(0, 4));
     for (uint64_t i = 0; i + 2 < 48; i += 4) {
-        int64_t least = 0;
-        for (size_t e = 0; e < s.left.size(); e++)
-            if ((s.left[e] == i && s.right[e] == i + 1) || (s.left[e] == i + 1 && s.right[e] == i + 2)) least += s.distance[e];
-        s.equal(i, i + 2, least + d.from(0, 500));
+        if (i % 12 == 0) {
+            join(s, d, i, i + 1);
+            join(s, d, i + 1, i + 2);
+        } else {
+            join(s, d, i, i + 2);
+        }
     }
     return s;
 }
+
+// The same sheet with two opposite gaps for each exact gap.
+static Sheet opposed(const Sheet &s) {
+    Sheet t = s;
+    for (size_t e = 0; e < s.left.size(); e++)
+        if (s.kind[e] == EXACTLY) t.kind[e] = AT_LEAST, t.gap(s.right[e], s.left[e], -s.distance[e]);
+    return t;
+}
+
+static Sheet as_it_is(const Sheet &s) { return s; }
 
 // All 48 labels wanted at one place, chained.
 static Sheet chain(Dice &) {
@@ -125,13 +167,13 @@ static double now() {
 struct Ours {
     int64_t place_num[48], place_den[48], mult_num[192], mult_den[192];
     uint64_t ring[48], out[2];
-    uint8_t carried[192];
+    uint8_t carried[192], back[48];
 
     uint64_t call(const Sheet &s) {
         size_t n = s.wanted.size(), m = s.left.size();
         return dirmoog_layout(
-            s.wanted.data(), n, s.weight.data(), n, s.left.data(), m, s.right.data(), m, s.distance.data(), m, carried, m, place_num, n,
-            place_den, n, mult_num, m, mult_den, m, ring, n, out, 2);
+            s.wanted.data(), n, s.weight.data(), n, s.left.data(), m, s.right.data(), m, s.distance.data(), m, s.kind.data(), m, carried, m,
+            place_num, n, place_den, n, mult_num, m, mult_den, m, ring, n, back, n, out, 2);
     }
     double timed(const Sheet &s, const uint8_t *marks) {
         memcpy(carried, marks, 192);
@@ -153,7 +195,7 @@ struct Peer {
     explicit Peer(const Sheet &s) {
         for (size_t i = 0; i < s.wanted.size(); i++) variables.push_back(new Variable(i, s.wanted[i], s.weight[i]));
         for (size_t e = 0; e < s.left.size(); e++)
-            constraints.push_back(new Constraint(variables[s.left[e]], variables[s.right[e]], s.distance[e]));
+            constraints.push_back(new Constraint(variables[s.left[e]], variables[s.right[e]], s.distance[e], s.kind[e] == EXACTLY));
     }
     ~Peer() {
         for (size_t e = constraints.size(); e-- > 0;) delete constraints[e];
@@ -212,7 +254,7 @@ struct Times {
     double cold = 1e30, warm = 1e30, after = 1e30, peer[2] = {1e30, 1e30};
 };
 
-static Times times(const Sheet &s, const Sheet &moved, const uint8_t *marks, const Verdict *answers) {
+static Times times(const Sheet &s, const Sheet &moved, const Sheet &told, const uint8_t *marks, const Verdict *answers) {
     static const uint8_t none[192] = {0};
     static Ours ours;
     Times t;
@@ -221,7 +263,7 @@ static Times times(const Sheet &s, const Sheet &moved, const uint8_t *marks, con
         t.warm = std::min(t.warm, ours.timed(s, marks));
         t.after = std::min(t.after, ours.timed(moved, marks));
         for (int k = 0; k < 2; k++)
-            if (answers[k] != NONE) t.peer[k] = std::min(t.peer[k], timed(s, (Solver)k));
+            if (answers[k] != NONE) t.peer[k] = std::min(t.peer[k], timed(told, (Solver)k));
     }
     return t;
 }
@@ -240,29 +282,31 @@ struct Total {
     double each() const { return answers ? us / answers : 0; }
 };
 
-static void family(const char *name, Sheet (*make)(Dice &), int count, uint64_t seed) {
+// A row of the table. The peer is told another sheet than the layout call where its own form of it is asked for.
+static void family(const char *name, Sheet (*make)(Dice &), int count, uint64_t seed, Sheet (*tell)(const Sheet &) = as_it_is) {
     Dice dice = {seed};
     double cold = 0, warm = 0, after = 0;
     int sheets = 0;
     Total peer[2];
     for (int k = 0; k < count; k++) {
-        Sheet s = make(dice), moved = s;
+        Sheet s = make(dice), moved = s, told = tell(s);
         for (size_t i = 0; i < s.wanted.size(); i++) moved.wanted[i] = std::min<int64_t>(200000, s.wanted[i] + dice.from(-20, 20));
         Ours right;
         memset(right.carried, 0, 192);
         if (right.call(s) != 0) continue;
-        Verdict answers[2] = {tried(s, BATCH, right), tried(s, INCREMENTAL, right)};
-        Times t = times(s, moved, right.carried, answers);
+        Verdict answers[2] = {tried(told, BATCH, right), tried(told, INCREMENTAL, right)};
+        Times t = times(s, moved, told, right.carried, answers);
         sheets++;
         cold += t.cold, warm += t.warm, after += t.after;
         for (int q = 0; q < 2; q++) peer[q].add(answers[q], t.peer[q]);
     }
-    int fast = !peer[1].answers || (peer[0].answers && peer[0].each() <= peer[1].each()) ? 0 : 1;
+    int more = peer[1].answers - peer[0].answers;
+    int best = more > 0 || (more == 0 && peer[1].each() < peer[0].each()) ? 1 : 0;
     const char *solver[2] = {"VPSC", "IncVPSC"};
     printf(
         "| %s | %d | %.1f | %.1f | %.1f | %.1f (%s) | %.2f | %.2f | %d of %d |\n", name, sheets, cold / sheets, warm / sheets,
-        after / sheets, peer[fast].each(), solver[fast], cold / sheets / peer[fast].each(), warm / cold, peer[fast].wrong,
-        peer[fast].answers);
+        after / sheets, peer[best].each(), solver[best], cold / sheets / peer[best].each(), warm / cold, peer[best].wrong,
+        peer[best].answers);
     for (int q = 0; q < 2; q++)
         fprintf(stderr, "%s, %s: %.1f us, %d answers, %d wrong\n", name, solver[q], peer[q].each(), peer[q].answers, peer[q].wrong);
 }
@@ -273,6 +317,8 @@ int main() {
     family("strips", strip, 100, 1);
     family("dense", dense, 100, 2);
     family("equalities", equalities, 100, 3);
+    family("joined", joined, 100, 7);
+    family("joined, told as opposite gaps", joined, 100, 7, opposed);
     family("chain", chain, 1, 4);
     family("tiny", tiny, 100, 5);
     family("hard", hard, 100, 6);

@@ -1,21 +1,21 @@
 //! Least moves for marker strips: a safe interface to the proved library `libdirmoog_c.a`.
 //!
 //! A sheet has labels, each with a wanted place and a weight, and gaps, each of which asks that its
-//! right label stand at least its distance to the right of its left label. [`lay_out`] finds the
-//! placement with the least sum of weight times squared move, in exact fractions, or refuses the
-//! sheet; [`round_half_up`] gives the whole units of its places, as they are listed, and [`slack`]
-//! tells how far a gap is from closing. Any slices may be lent: nothing panics. A call needs less than
-//! 32 KiB of stack.
+//! right label stand at least its distance to the right of its left label, or exactly there.
+//! [`lay_out`] finds the placement with the least sum of weight times squared move, in exact
+//! fractions, or refuses the sheet; [`round_half_up`] gives the whole units of its places, as they are
+//! listed, and [`slack`] tells how far a gap is from closing. Any slices may be lent: nothing panics.
+//! A call needs less than 32 KiB of stack.
 //!
 //! A sheet's text is read by [`read_sheet`], and [`write_listing`] writes what a station prints. A
 //! refusal, [`Refusal`] or [`TextRefusal`], is an error that prints itself in words.
 //!
 //! What is proved is the library. Nothing proves this package: its `unsafe` calls, how it turns
-//! numbers into enums and words, and [`ring_part`], which is its own.
+//! numbers into enums and words, and [`ring_part`] and [`back_part`], which are its own.
 //!
 //! ```
 //! use dirmoog::{lay_out, round_half_up, slack};
-//! use dirmoog::{Answer, Fraction, Room, Rounded, Sheet, SlackAnswer};
+//! use dirmoog::{Answer, Fraction, Room, Rounded, Sheet, SlackAnswer, AT_LEAST};
 //!
 //! let sheet = Sheet {
 //!     wanted: &[0, 3],
@@ -23,6 +23,7 @@
 //!     left: &[0],
 //!     right: &[1],
 //!     distance: &[6],
+//!     kind: &[AT_LEAST],
 //! };
 //! let (mut place_num, mut place_den) = ([0; 2], [0; 2]);
 //! let (mut mult_num, mut mult_den) = ([0; 1], [0; 1]);
@@ -33,6 +34,7 @@
 //!     mult_num: &mut mult_num,
 //!     mult_den: &mut mult_den,
 //!     ring: &mut [0; 2],
+//!     back: &mut [0; 2],
 //! };
 //! assert_eq!(lay_out(&sheet, &mut room), Answer::Placed);
 //! assert_eq!((place_num, place_den), ([-3, 9], [2, 2]));
@@ -89,7 +91,19 @@ pub enum SlackAnswer {
     Refused(Refusal),
 }
 
-/// What a station lends to read: one entry per label, then one per gap.
+/// The kind of a gap whose right label stands at least its distance to the right of its left label.
+pub const AT_LEAST: u8 = 0;
+
+/// The kind of a gap whose right label stands exactly its distance to the right of its left label.
+pub const EXACTLY: u8 = 1;
+
+/// Beside a gap of a ring that is passed from its left label to its right.
+pub const FORWARDS: u8 = 0;
+
+/// Beside a gap of a ring, an exact one, that is passed from its right label to its left.
+pub const BACKWARDS: u8 = 1;
+
+/// What a station lends to read: one entry per label, then one per gap. A kind is [`AT_LEAST`] or [`EXACTLY`].
 #[derive(Clone, Copy, Debug)]
 pub struct Sheet<'a> {
     pub wanted: &'a [i64],
@@ -97,6 +111,7 @@ pub struct Sheet<'a> {
     pub left: &'a [u64],
     pub right: &'a [u64],
     pub distance: &'a [i64],
+    pub kind: &'a [u8],
 }
 
 /// What a station lends to write, and the carried record, which is read too: its bytes may be anything.
@@ -108,26 +123,60 @@ pub struct Room<'a> {
     pub mult_num: &'a mut [i64],
     pub mult_den: &'a mut [i64],
     pub ring: &'a mut [u64],
+    pub back: &'a mut [u8],
 }
 
 /// Lays out a sheet.
 ///
-/// Placed: the first entries of the room hold places, multipliers and marks; the rest of it and the
-/// ring buffer stay. Refused: nothing is written but, with 9, a ring's gap numbers in the front of
-/// the ring buffer ([`ring_part`]).
+/// Placed: the first entries of the room hold places, multipliers and marks; the rest of it and both
+/// ring buffers stay. The multiplier of an exact gap may have either sign.
 ///
 /// ```
-/// use dirmoog::{lay_out, ring_part, Answer, Refusal, Room, Sheet};
+/// use dirmoog::{lay_out, Answer, Room, Sheet, EXACTLY};
 ///
-/// // Label 1 stands at least 5 right of label 0, and at most 4: no placement.
+/// // The parts of a marker want to stand 10 apart, and stand 6 apart.
+/// let sheet = Sheet {
+///     wanted: &[0, 10],
+///     weight: &[1, 1],
+///     left: &[0],
+///     right: &[1],
+///     distance: &[6],
+///     kind: &[EXACTLY],
+/// };
+/// let (mut place_num, mut place_den) = ([0; 2], [0; 2]);
+/// let (mut mult_num, mut mult_den) = ([0; 1], [0; 1]);
+/// let mut room = Room {
+///     carried: &mut [0],
+///     place_num: &mut place_num,
+///     place_den: &mut place_den,
+///     mult_num: &mut mult_num,
+///     mult_den: &mut mult_den,
+///     ring: &mut [0; 2],
+///     back: &mut [0; 2],
+/// };
+/// assert_eq!(lay_out(&sheet, &mut room), Answer::Placed);
+/// assert_eq!((place_num, place_den), ([2, 8], [1, 1]));
+/// assert_eq!((mult_num, mult_den), ([-4], [1]));
+/// ```
+///
+/// Refused: nothing is written but, with 9, a ring: its gap numbers in the front of one ring buffer
+/// ([`ring_part`]) and beside each, in the front of the other ([`back_part`]), [`FORWARDS`] or
+/// [`BACKWARDS`]. It may start at any of its gaps.
+///
+/// ```
+/// use dirmoog::{back_part, lay_out, ring_part, Answer, Refusal, Room, Sheet};
+/// use dirmoog::{AT_LEAST, BACKWARDS, EXACTLY, FORWARDS};
+///
+/// // Label 1 stands exactly 5 right of label 0, and at least 6: no placement.
 /// let sheet = Sheet {
 ///     wanted: &[0, 0],
 ///     weight: &[1, 1],
-///     left: &[0, 1],
-///     right: &[1, 0],
-///     distance: &[5, -4],
+///     left: &[0, 0],
+///     right: &[1, 1],
+///     distance: &[5, 6],
+///     kind: &[EXACTLY, AT_LEAST],
 /// };
-/// let mut ring = [7; 3];
+/// let (mut ring, mut back) = ([7; 3], [7; 3]);
 /// let mut room = Room {
 ///     carried: &mut [0; 2],
 ///     place_num: &mut [0; 2],
@@ -135,13 +184,14 @@ pub struct Room<'a> {
 ///     mult_num: &mut [0; 2],
 ///     mult_den: &mut [0; 2],
 ///     ring: &mut ring,
+///     back: &mut back,
 /// };
 /// let answer = lay_out(&sheet, &mut room);
 /// assert_eq!(answer, Answer::Refused(Refusal { number: 9, place: 0, ring: 2 }));
-/// let mut gaps = ring_part(&ring, 2).to_vec();
-/// gaps.sort();
-/// assert_eq!(gaps, [0, 1]);
-/// assert_eq!(ring[2], 7);
+/// let mut steps: Vec<_> = ring_part(&ring, 2).iter().zip(back_part(&back, 2)).collect();
+/// steps.sort();
+/// assert_eq!(steps, [(&0, &BACKWARDS), (&1, &FORWARDS)]);
+/// assert_eq!((ring[2], back[2]), (7, 7));
 /// ```
 pub fn lay_out(sheet: &Sheet<'_>, room: &mut Room<'_>) -> Answer {
     let mut out = [0; 2];
@@ -158,6 +208,8 @@ pub fn lay_out(sheet: &Sheet<'_>, room: &mut Room<'_>) -> Answer {
             sheet.right.len(),
             sheet.distance.as_ptr(),
             sheet.distance.len(),
+            sheet.kind.as_ptr(),
+            sheet.kind.len(),
             room.carried.as_mut_ptr(),
             room.carried.len(),
             room.place_num.as_mut_ptr(),
@@ -170,6 +222,8 @@ pub fn lay_out(sheet: &Sheet<'_>, room: &mut Room<'_>) -> Answer {
             room.mult_den.len(),
             room.ring.as_mut_ptr(),
             room.ring.len(),
+            room.back.as_mut_ptr(),
+            room.back.len(),
             out.as_mut_ptr(),
             out.len(),
         )
@@ -197,9 +251,25 @@ fn refusal(number: u64, out: [u64; 2]) -> Refusal {
 /// assert_eq!(dirmoog::ring_part(&[4, 1, 0], 4), []);
 /// ```
 pub fn ring_part(ring: &[u64], length: u64) -> &[u64] {
+    front(ring, length)
+}
+
+/// The front part of the second ring buffer, beside that of [`ring_part`] and by the same rule: it tells of
+/// each gap of a ring whether it is passed [`FORWARDS`] or [`BACKWARDS`].
+///
+/// ```
+/// assert_eq!(dirmoog::back_part(&[1, 0, 0], 2), [1, 0]);
+/// assert_eq!(dirmoog::back_part(&[1, 0, 0], 4), []);
+/// ```
+pub fn back_part(back: &[u8], length: u64) -> &[u8] {
+    front(back, length)
+}
+
+/// So many entries from the front of a buffer, or none where it has fewer.
+fn front<T>(buffer: &[T], length: u64) -> &[T] {
     usize::try_from(length)
         .ok()
-        .and_then(|length| ring.get(..length))
+        .and_then(|length| buffer.get(..length))
         .unwrap_or(&[])
 }
 

@@ -20,6 +20,8 @@ extern "C" {
         right_len: usize,
         distance: *const i64,
         distance_len: usize,
+        kind: *const u8,
+        kind_len: usize,
         carried: *mut u8,
         carried_len: usize,
         place_num: *mut i64,
@@ -32,6 +34,8 @@ extern "C" {
         mult_den_len: usize,
         ring: *mut u64,
         ring_len: usize,
+        back: *mut u8,
+        back_len: usize,
         out: *mut u64,
         out_len: usize,
     ) -> u64;
@@ -63,6 +67,8 @@ extern "C" {
         right_len: usize,
         distance: *mut i64,
         distance_len: usize,
+        kind: *mut u8,
+        kind_len: usize,
         out: *mut u64,
         out_len: usize,
     ) -> u64;

@@ -37,6 +37,7 @@ impl Reading {
     ///         left: &mut [0; 192],
     ///         right: &mut [0; 192],
     ///         distance: &mut [0; 192],
+    ///         kind: &mut [0; 192],
     ///     };
     ///     let counts = read_sheet(text, &mut lists).sheet()?;
     ///     Ok(counts)
@@ -73,30 +74,35 @@ pub struct Lists<'a> {
     pub left: &'a mut [u64],
     pub right: &'a mut [u64],
     pub distance: &'a mut [i64],
+    pub kind: &'a mut [u8],
 }
 
-/// Reads a sheet's text into the front of lent lists. The entries beyond stay; a refused text writes nothing. A weight
-/// that is left blank in the text is read as 10; a weight of 0 is no blank one, and [`lay_out`](crate::lay_out) refuses it.
+/// Reads a sheet's text into the front of lent lists. The entries beyond stay; a refused text writes nothing.
+/// The kind of a gap is read from its word: [`AT_LEAST`](crate::AT_LEAST) from gap, [`EXACTLY`](crate::EXACTLY)
+/// from same. A weight that is left blank in the text is read as 10; a weight of 0 is no blank one, and
+/// [`lay_out`](crate::lay_out) refuses it.
 ///
-/// A text is refused, in this order, with 11 if it is too long; else at the first bad line, with 10 if that is without
-/// four fields, 13 if its first field is neither label nor gap, 14 at the first number that breaks its rule, 15 if a
-/// label's number is out of turn; else with 1 for too many labels, 2 for too many gaps, 4 if a list is too short. The
-/// rules are those of `dirmoog_read` in include/dirmoog.h.
+/// A text is refused, in this order, with 11 if it is too long; else at the first bad line, with 10 if that is
+/// without four fields, 13 if its first field is none of label, gap and same, 14 at the first number that breaks
+/// its rule, 15 if a label's number is out of turn; else with 1 for too many labels, 2 for too many gaps, 4 if a
+/// list is too short. The rules are those of `dirmoog_read` in include/dirmoog.h.
 ///
 /// ```
-/// use dirmoog::{read_sheet, Counts, Lists, Reading, Refusal, TextRefusal};
+/// use dirmoog::{read_sheet, Counts, Lists, Reading, Refusal, TextRefusal, AT_LEAST, EXACTLY};
 ///
 /// let (mut wanted, mut weight) = ([0; 48], [0; 48]);
 /// let (mut left, mut right, mut distance) = ([0; 192], [0; 192], [0; 192]);
+/// let mut kind = [0; 192];
 /// let mut lists = Lists {
 ///     wanted: &mut wanted,
 ///     weight: &mut weight,
 ///     left: &mut left,
 ///     right: &mut right,
 ///     distance: &mut distance,
+///     kind: &mut kind,
 /// };
-/// let reading = read_sheet(b"label,0,0,1\r\nlabel,1,3,\r\ngap,0,1,6\r\n", &mut lists);
-/// assert_eq!(reading, Reading::Sheet(Counts { labels: 2, gaps: 1 }));
+/// let text = b"label,0,0,1\r\nlabel,1,3,\r\ngap,0,1,6\r\nsame,0,1,7\r\n";
+/// assert_eq!(read_sheet(text, &mut lists), Reading::Sheet(Counts { labels: 2, gaps: 2 }));
 ///
 /// // a second label with the number of the first: out of turn, and the lists stay as they were read
 /// let reading = read_sheet(b"label,0,7,1\r\nlabel,0,9,1\r\n", &mut lists);
@@ -104,7 +110,8 @@ pub struct Lists<'a> {
 /// assert_eq!(reading, Reading::Refused(TextRefusal { refusal, field: 2 }));
 ///
 /// assert_eq!((&wanted[..2], &weight[..2]), (&[0, 3][..], &[1, 10][..]));
-/// assert_eq!((left[0], right[0], distance[0]), (0, 1, 6));
+/// assert_eq!((&left[..2], &right[..2], &distance[..2]), (&[0, 0][..], &[1, 1][..], &[6, 7][..]));
+/// assert_eq!(kind[..2], [AT_LEAST, EXACTLY]);
 /// ```
 pub fn read_sheet(text: &[u8], lists: &mut Lists<'_>) -> Reading {
     let mut out = [0; 2];
@@ -123,6 +130,8 @@ pub fn read_sheet(text: &[u8], lists: &mut Lists<'_>) -> Reading {
             lists.right.len(),
             lists.distance.as_mut_ptr(),
             lists.distance.len(),
+            lists.kind.as_mut_ptr(),
+            lists.kind.len(),
             out.as_mut_ptr(),
             out.len(),
         )

@@ -3,39 +3,29 @@ use crate::{Refusal, TextRefusal};
 use std::error::Error;
 use std::fmt::{Display, Formatter, Result};
 
-/// The trade's words of the refusal table, from 1 on.
-const WORDS: [&str; 15] = [
-    "crowded",
-    "over-gapped",
-    "ragged",
-    "short room",
-    "off plate",
-    "bad weight",
-    "stranger",
-    "bad gap",
-    "ring",
-    "bad line",
-    "long text",
-    "bad fraction",
-    "unknown word",
-    "bad number",
-    "out of turn",
-];
-
-/// The trade's word of a number, if the table has it.
-fn word(number: u64) -> Option<&'static str> {
-    let row = usize::try_from(number).ok()?.checked_sub(1)?;
-    WORDS.get(row).copied()
-}
-
-/// What a number's place counts; nothing where it is always 0.
-fn place_kind(number: u64) -> Option<&'static str> {
-    match number {
-        5 | 6 => Some("label"),
-        7 | 8 => Some("gap"),
-        10 | 13..=15 => Some("line"),
-        _ => None,
-    }
+/// The row of a number in the refusal table, if there is one: the trade's word, and what the place counts;
+/// nothing where that is always 0.
+fn row(number: u64) -> Option<(&'static str, Option<&'static str>)> {
+    let row = match number {
+        1 => ("crowded", None),
+        2 => ("over-gapped", None),
+        3 => ("ragged", None),
+        4 => ("short room", None),
+        5 => ("off plate", Some("label")),
+        6 => ("bad weight", Some("label")),
+        7 => ("stranger", Some("gap")),
+        8 => ("bad gap", Some("gap")),
+        9 => ("ring", None),
+        10 => ("bad line", Some("line")),
+        11 => ("long text", None),
+        12 => ("bad fraction", None),
+        13 => ("unknown word", Some("line")),
+        14 => ("bad number", Some("line")),
+        15 => ("out of turn", Some("line")),
+        23 => ("unknown kind", Some("gap")),
+        _ => return None,
+    };
+    Some(row)
 }
 
 /// The trade's word of the refusal table and, where it has one, the place; with 9 the ring's length.
@@ -51,11 +41,12 @@ fn place_kind(number: u64) -> Option<&'static str> {
 /// assert_eq!(words(7, 2, 0), "stranger: gap 2");
 /// assert_eq!(words(9, 0, 3), "ring of 3 gaps");
 /// assert_eq!(words(10, 2, 0), "bad line: line 2");
+/// assert_eq!(words(23, 5, 0), "unknown kind: gap 5");
 /// assert_eq!(words(99, 0, 0), "refusal 99");
 /// ```
 impl Display for Refusal {
     fn fmt(&self, out: &mut Formatter<'_>) -> Result {
-        let Some(word) = word(self.number) else {
+        let Some((word, counted)) = row(self.number) else {
             return write!(out, "refusal {}", self.number);
         };
         write!(out, "{word}")?;
@@ -64,8 +55,8 @@ impl Display for Refusal {
             (9, length) => return write!(out, " of {length} gaps"),
             _ => (),
         }
-        match place_kind(self.number) {
-            Some(kind) => write!(out, ": {kind} {}", self.place),
+        match counted {
+            Some(counted) => write!(out, ": {counted} {}", self.place),
             None => Ok(()),
         }
     }

@@ -6,7 +6,7 @@ enum { LABELS = 48, GAPS = 192, TEXT = 16385, LISTING = 24576 };
 
 int main(void)
 {
-    static uint8_t text[TEXT], carried[GAPS], listing[LISTING];
+    static uint8_t text[TEXT], kind[GAPS], carried[GAPS], back[LABELS], listing[LISTING];
     static int64_t wanted[LABELS], weight[LABELS], distance[GAPS];
     static uint64_t left[GAPS], right[GAPS], ring[LABELS];
     static int64_t place_num[LABELS], place_den[LABELS], mult_num[GAPS], mult_den[GAPS];
@@ -15,13 +15,14 @@ int main(void)
 
     if (ferror(stdin)) /* a failed read is not a short sheet */
         return 1;
-    number = dirmoog_read(text, size, wanted, LABELS, weight, LABELS, left, GAPS, right, GAPS, distance, GAPS, told, 2);
+    number = dirmoog_read(text, size, wanted, LABELS, weight, LABELS, left, GAPS, right, GAPS, distance, GAPS,
+                          kind, GAPS, told, 2);
     if (number == 0) {
         labels = told[0];
         gaps = told[1];
         number = dirmoog_layout(wanted, labels, weight, labels, left, gaps, right, gaps, distance, gaps,
-                                carried, gaps, place_num, LABELS, place_den, LABELS, mult_num, GAPS, mult_den, GAPS,
-                                ring, LABELS, told, 2);
+                                kind, gaps, carried, gaps, place_num, LABELS, place_den, LABELS,
+                                mult_num, GAPS, mult_den, GAPS, ring, LABELS, back, LABELS, told, 2);
     } else {
         field = told[1]; /* the bad field; what dirmoog_layout tells there is the ring's length */
     }

@@ -1,6 +1,6 @@
-// Lays out the bench sheets of document 01 that have no P, each from three carried records, and prints places,
-// multipliers, marks and rings. Each sheet has a line with its name in front and a byte 0, which no sheet has,
-// behind.
+// Lays out the bench sheets of document 01 that have no P, and sheets with exact gaps, each from three carried records,
+// and prints places, multipliers, marks and rings. Each sheet has a line with its name in front and a byte 0, which no
+// sheet has, behind.
 use ground::Answer;
 use ground::Refusal;
 use ground::limits::GAPS;
@@ -71,13 +71,23 @@ fn print_placed(
     print_marks(carried);
 }
 
-// Writes the gap numbers of a ring in a line.
-fn print_ring(count: usize, ring: &[usize]) {
+// Writes a step of a ring: the gap's number, and the word back in front of it where the gap is passed backwards.
+fn print_step(gap: usize, back: u8) {
+    if back != 0 {
+        io::write_all(1, b" back");
+    }
+    io::write_all(1, b" ");
+    io::print_decimal(1, gap as u64);
+}
+
+// Writes the steps of a ring in a line.
+fn print_ring(count: usize, ring: &[usize], back: &[u8]) {
     let mut k: usize = 0;
     while k < count {
         if k < ring.len() {
-            io::write_all(1, b" ");
-            io::print_decimal(1, ring[k] as u64);
+            if k < back.len() {
+                print_step(ring[k], back[k]);
+            }
         }
         k += 1;
     }
@@ -85,13 +95,13 @@ fn print_ring(count: usize, ring: &[usize]) {
 }
 
 // Writes a refusal with its ring.
-fn print_refusal(refusal: Refusal, ring: &[usize]) {
+fn print_refusal(refusal: Refusal, ring: &[usize], back: &[u8]) {
     io::write_all(1, b"  refused ");
     io::print_decimal(1, refusal.number as u64);
     io::write_all(1, b" at ");
     io::print_decimal(1, refusal.place as u64);
     io::write_all(1, b", ring");
-    print_ring(refusal.ring, ring);
+    print_ring(refusal.ring, ring, back);
 }
 
 // Lays a sheet out from a carried record, and prints what is answered and left.
@@ -102,24 +112,28 @@ fn show(
     left: &[usize],
     right: &[usize],
     distance: &[i64],
+    kind: &[u8],
 ) {
     let mut place_num = [0i64; LABELS];
     let mut place_den = [0i64; LABELS];
     let mut mult_num = [0i64; GAPS];
     let mut mult_den = [0i64; GAPS];
     let mut ring = [0usize; LABELS];
+    let mut back = [0u8; LABELS];
     let answer = lay_out(
         wanted,
         weight,
         left,
         right,
         distance,
+        kind,
         carried,
         &mut place_num,
         &mut place_den,
         &mut mult_num,
         &mut mult_den,
         &mut ring,
+        &mut back,
     );
     match answer {
         Answer::Placed => print_placed(
@@ -130,7 +144,7 @@ fn show(
             &mult_den,
             carried,
         ),
-        Answer::Refused(refusal) => print_refusal(refusal, &ring),
+        Answer::Refused(refusal) => print_refusal(refusal, &ring, &back),
     }
 }
 
@@ -146,17 +160,24 @@ fn other_bytes() -> GapBytes {
 }
 
 // Lays a sheet out from records of zeros, of ones and of other bytes.
-fn show_thrice(wanted: &[i64], weight: &[i64], left: &[usize], right: &[usize], distance: &[i64]) {
-    let gaps = left.len();
-    if GAPS < gaps {
+fn show_thrice(
+    wanted: &[i64],
+    weight: &[i64],
+    left: &[usize],
+    right: &[usize],
+    distance: &[i64],
+    kind: &[u8],
+) {
+    let n = left.len();
+    if GAPS < n {
         return;
     }
     let mut zeros = [0u8; GAPS];
     let mut ones = [1u8; GAPS];
-    let mut others = other_bytes();
-    show(&mut zeros[..gaps], wanted, weight, left, right, distance);
-    show(&mut ones[..gaps], wanted, weight, left, right, distance);
-    show(&mut others[..gaps], wanted, weight, left, right, distance);
+    let mut mixed = other_bytes();
+    show(&mut zeros[..n], wanted, weight, left, right, distance, kind);
+    show(&mut ones[..n], wanted, weight, left, right, distance, kind);
+    show(&mut mixed[..n], wanted, weight, left, right, distance, kind);
 }
 
 // Reads a sheet's text and lays it out. Every text of the bench is a sheet.
@@ -166,6 +187,7 @@ fn show_text(text: &[u8]) {
     let mut left = [0usize; GAPS];
     let mut right = [0usize; GAPS];
     let mut distance = [0i64; GAPS];
+    let mut kind = [0u8; GAPS];
     let found = read_sheet(
         text,
         &mut wanted,
@@ -173,6 +195,7 @@ fn show_text(text: &[u8]) {
         &mut left,
         &mut right,
         &mut distance,
+        &mut kind,
     );
     let Reading::Sheet(counts) = found else {
         return;
@@ -191,6 +214,7 @@ fn show_text(text: &[u8]) {
         &left[..gaps],
         &right[..gaps],
         &distance[..gaps],
+        &kind[..gaps],
     );
 }
 
@@ -228,10 +252,25 @@ fn show_all(sheets: &[u8]) {
     }
 }
 
-// The one bench sheet that no text can tell: its lists differ in length.
+// Sheets that no text can tell: their lists differ in length.
 fn show_unequal() {
     io::write_all(1, b"lists that differ in length are 3\n");
-    show_thrice(&[0i64, 0], &[1i64], &[], &[], &[]);
+    show_thrice(&[0i64, 0], &[1i64], &[], &[], &[], &[]);
+    io::write_all(1, b"fewer kinds than gaps are 3\n");
+    show_thrice(&[0i64, 0], &[1i64, 1], &[0], &[1], &[6i64], &[]);
+}
+
+// A sheet that no text can tell: the second gap, of this distance, has a kind that is neither.
+fn show_neither(distance: i64) {
+    let distances = [6, distance];
+    show_thrice(
+        &[0i64, 0],
+        &[1i64, 1],
+        &[0, 0],
+        &[1, 1],
+        &distances,
+        &[0, 2],
+    );
 }
 
 fn main() {
@@ -239,4 +278,8 @@ fn main() {
     let got = io::read_full(0, &mut sheets);
     show_all(&sheets[..got]);
     show_unequal();
+    io::write_all(1, b"a kind that is neither is 23\n");
+    show_neither(6);
+    io::write_all(1, b"a gap of 20,001 of a kind that is neither is 8\n");
+    show_neither(20001);
 }

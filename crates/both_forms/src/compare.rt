@@ -4,8 +4,11 @@ use ground::Refusal;
 use ground::limits::GAPS;
 use ground::limits::GapInts;
 use ground::limits::LABELS;
+use ground::limits::LabelBytes;
+use ground::limits::LabelIndices;
 use ground::limits::LabelInts;
 use ground::signs::magnitude;
+use layout::part::back_part;
 use layout::part::ring_part;
 use rooms::Laid;
 use rooms::RecordBytes;
@@ -101,14 +104,24 @@ fn print_marks(gaps: usize, carried: RecordBytes, carried2: RecordBytes)
     print_verdict(check::same(&carried[0..gaps], &carried2[0..gaps]));
 }
 
-// Writes the gap numbers of a ring.
-pub(crate) fn print_ring(part: &[usize], other: &[usize]) {
+// Writes a step of a ring: the gap's number, and the word back in front of it where the gap is passed backwards.
+fn print_step(gap: usize, back: u8) {
+    if back != 0 {
+        io::write_all(1, b" back");
+    }
+    io::write_all(1, b" ");
+    io::print_decimal(1, gap as u64);
+}
+
+// Writes the steps of a ring, beside those of another: gap numbers, and which of them are passed backwards.
+pub(crate) fn print_ring(part: &[usize], back: &[u8], other: &[usize], other_back: &[u8]) {
     io::write_all(1, b"  ring");
     let mut same = part.len() == other.len();
     let mut k: usize = 0;
     while k < part.len() {
-        io::write_all(1, b" ");
-        io::print_decimal(1, part[k] as u64);
+        if k < back.len() {
+            print_step(part[k], back[k]);
+        }
         if k < other.len() {
             if part[k] != other[k] {
                 same = false;
@@ -116,7 +129,11 @@ pub(crate) fn print_ring(part: &[usize], other: &[usize]) {
         }
         k += 1;
     }
-    print_verdict(same);
+    if same {
+        print_verdict(check::same(back, other_back));
+    } else {
+        print_verdict(false);
+    }
 }
 
 // A refusal's number, place and ring length, all 0 where there is none.
@@ -148,11 +165,21 @@ fn print_answer(answer: Refusal, other: Refusal) {
     }
 }
 
-// Writes the rings of two refusals.
-fn print_rings(room: Room, size: usize, other: Room, size2: usize) {
-    let ring = room.ring;
-    let ring2 = other.ring;
-    print_ring(ring_part(&ring, size), ring_part(&ring2, size2));
+// Writes the rings of two refusals, through the filled parts of their buffers.
+fn print_rings(
+    size: usize,
+    ring: LabelIndices,
+    back: LabelBytes,
+    size2: usize,
+    ring2: LabelIndices,
+    back2: LabelBytes,
+) {
+    print_ring(
+        ring_part(&ring, size),
+        back_part(&back, size),
+        ring_part(&ring2, size2),
+        back_part(&back2, size2),
+    );
 }
 
 // Writes the places, multipliers and marks of two placed sheets.
@@ -184,7 +211,11 @@ pub(crate) fn print_laid(labels: usize, gaps: usize, laid: Laid, other: Laid) {
     let b = refusal_of(answer2);
     print_answer(a, b);
     if a.ring != 0 {
-        return print_rings(room, a.ring, room2, b.ring);
+        let ring = room.ring;
+        let back = room.back;
+        let ring2 = room2.ring;
+        let back2 = room2.back;
+        return print_rings(a.ring, ring, back, b.ring, ring2, back2);
     }
     if a.number != 0 {
         return;

@@ -1,8 +1,10 @@
-// Runs the two layout calls and `ring_part`: the compiler behind their proofs is trusted.
-// Each bench sheet of document 01, those with P too, is laid out in both forms by `lay_out_both`, and what the
-// two calls answer and leave is compared and printed, a ring through the part that `ring_part` hands back.
-// `lay_out_records` itself lays it out once more, from marks at every gap and into buffers of sevens: its places
-// have to be the same; its multipliers, marks and ring may be others. Crate `rooms` lends the records.
+// Runs the two layout calls, `ring_part` and `back_part`: the compiler behind their proofs is trusted.
+// Each bench sheet of document 01, those with P too, and sheets with exact gaps are laid out in both forms by
+// `lay_out_both`, and what the two calls answer and leave is compared and printed. A ring is printed through the
+// parts that `ring_part` and `back_part` hand back: the gap numbers, each with the word back in front where the
+// gap is passed backwards. `lay_out_records` itself lays it out once more, from marks at every gap and into
+// buffers of sevens: its places have to be the same; its multipliers, marks and ring may be others. Crate `rooms`
+// lends the records.
 // A sheet has a line with its name and a line with its carried record in front, and a byte 0 behind.
 mod compare;
 
@@ -10,10 +12,13 @@ use bytes::scan::find;
 use compare::print_laid;
 use compare::print_ring;
 use ground::GapRecord;
+use ground::limits::AT_LEAST;
 use ground::limits::GAPS;
+use ground::limits::GapBytes;
 use ground::limits::GapIndices;
 use ground::limits::GapInts;
 use ground::limits::LABELS;
+use layout::part::back_part;
 use layout::part::ring_part;
 use record_arrays::RECORDS;
 use rooms::Laid;
@@ -23,12 +28,18 @@ use rooms::lay_out_rooms;
 use text_reading::Reading;
 use text_reading::read::read_sheet;
 
-// The gaps of three lists as records.
-fn records_of(left: GapIndices, right: GapIndices, distance: GapInts) -> [GapRecord; RECORDS] {
+// The gaps of four lists as records.
+fn records_of(
+    left: GapIndices,
+    right: GapIndices,
+    distance: GapInts,
+    kind: GapBytes,
+) -> [GapRecord; RECORDS] {
     let mut records = [GapRecord {
         left: 0,
         right: 0,
         distance: 0,
+        kind: AT_LEAST,
     }; RECORDS];
     let mut e: usize = 0;
     while e < GAPS {
@@ -36,6 +47,7 @@ fn records_of(left: GapIndices, right: GapIndices, distance: GapInts) -> [GapRec
             left: left[e],
             right: right[e],
             distance: distance[e],
+            kind: kind[e],
         };
         e += 1;
     }
@@ -66,6 +78,7 @@ fn show_both(
     left: &[usize],
     right: &[usize],
     distance: &[i64],
+    kind: &[u8],
 ) {
     let labels = wanted.len();
     let gaps = left.len();
@@ -82,6 +95,7 @@ fn show_both(
         left,
         right,
         distance,
+        kind,
         records,
         count,
     );
@@ -99,6 +113,7 @@ fn show_text(marks: RecordBytes, text: &[u8]) {
     let mut left = [0usize; GAPS];
     let mut right = [0usize; GAPS];
     let mut distance = [0i64; GAPS];
+    let mut kind = [0u8; GAPS];
     let found = read_sheet(
         text,
         &mut wanted,
@@ -106,6 +121,7 @@ fn show_text(marks: RecordBytes, text: &[u8]) {
         &mut left,
         &mut right,
         &mut distance,
+        &mut kind,
     );
     let Reading::Sheet(counts) = found else {
         return;
@@ -120,12 +136,13 @@ fn show_text(marks: RecordBytes, text: &[u8]) {
     }
     show_both(
         marks,
-        records_of(left, right, distance),
+        records_of(left, right, distance, kind),
         &wanted[0..labels],
         &weight[0..labels],
         &left[0..gaps],
         &right[0..gaps],
         &distance[0..gaps],
+        &kind[0..gaps],
     );
 }
 
@@ -171,20 +188,42 @@ fn show_all(sheets: &[u8]) {
     }
 }
 
-// The parts of a ring buffer: a length beyond it gives the empty part.
+// The sheet that no text can tell: a gap whose kind is neither.
+fn show_neither() {
+    io::write_all(1, b"a kind that is neither is 23\n");
+    show_both(
+        [0u8; RECORDS],
+        records_of([0usize; GAPS], [1usize; GAPS], [6i64; GAPS], [2u8; GAPS]),
+        &[0i64, 0],
+        &[1i64, 1],
+        &[0],
+        &[1],
+        &[6i64],
+        &[2],
+    );
+}
+
+// The parts of two ring buffers: a length beyond them gives the empty parts.
 fn show_parts() {
     let ring = [5usize, 6, 7];
+    let back = [0u8, 1, 0];
     io::write_all(
         1,
-        b"the parts of lengths 2 and 4 of a buffer of 5, 6 and 7\n",
+        b"the parts of lengths 2 and 4 of buffers of 5, 6 and 7 and of 0, 1 and 0\n",
     );
-    print_ring(ring_part(&ring, 2), ring_part(&ring, 2));
-    print_ring(ring_part(&ring, 4), &[]);
+    print_ring(
+        ring_part(&ring, 2),
+        back_part(&back, 2),
+        ring_part(&ring, 2),
+        back_part(&back, 2),
+    );
+    print_ring(ring_part(&ring, 4), back_part(&back, 4), &[], &[]);
 }
 
 fn main() {
     let mut sheets = io::large_buffer();
     let got = io::read_full(0, &mut sheets);
     show_all(&sheets[0..got]);
+    show_neither();
     show_parts();
 }

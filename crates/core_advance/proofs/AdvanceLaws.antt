@@ -18,7 +18,7 @@ use Rattle.algebra.proofs.Whole.{one-*ℤ, le-parts, parts-le, lt-parts, parts-
 use Rattle.algebra.proofs.Sum.{sum-term-le}
 use Rattle.exact.proofs.Ordering.{below-means, above-means, same-means}
 use Rattle.algebra.proofs.Quotient.{leZ-of-test, test-of-leZ}
-use Rattle.least_move.specs.Sheet.{at-least, gapNumber}
+use Rattle.least_move.specs.Sheet.{at-least, gapNumber, kindOf}
 use Rattle.ground.specs.declared.GapNumber.{GapNumber}
 use Rattle.least_move.proofs.Blocks.{not-true}
 use Rattle.least_move.proofs.Sides.{BlockSide, drop-same, drop-left, drop-right, reach}
@@ -30,7 +30,7 @@ use Rattle.core_breaking.specs.declared.Break.the-variants.{Nothing, At}
 use Rattle.core_breaking.specs.declared.Side.{Side}
 use Rattle.core_breaking.specs.Breaking.{over, nearerOf, candidateOf}
 use Rattle.core_breaking.specs.Decide.{meetingOf, beforeTight, againstTight, decided, withinBlock}
-use Rattle.core_forest.specs.Problem.{Problem, Limits, kindOf, marksOf, numbersOf, IsForest}
+use Rattle.core_forest.specs.Problem.{Problem, Limits, marksOf, numbersOf, IsForest}
 use Rattle.core_advance.specs.Side.{RestStays, SideFound}
 use Rattle.core_advance.specs.Advance.{GapDropped, GapReached, Blocked, Gives, SearchedFrom}
 use Rattle.core_breaking.proofs.BreakingPoints.{NoLater, Above0, Each, no-later-trans, nearer-one, nearer-first, nearer-second, nearer-none, nearer-above0, cross, here-above0, breaks-at, Least, least-at, least-above0, least-no-later, least-none}

@@ -14,7 +14,7 @@ use Rattle.algebra.specs.Sum.{sum, ind}
 use Rattle.algebra.proofs.Ring.{ring, quotes, lt-given, lt-goal}
 use Rattle.algebra.proofs.Whole.{one-*ℤ, pp, le-parts, parts-le, lt-parts, parts-lt, not-le-of-lt}
 use Rattle.algebra.proofs.Sum.{sum-cong, sum-*}
-use Rattle.least_move.specs.Sheet.{at-least, gapNumber}
+use Rattle.least_move.specs.Sheet.{at-least, gapNumber, kindOf}
 use Rattle.ground.specs.declared.GapNumber.{GapNumber}
 use Rattle.least_move.specs.States.{flow, Independent, Numbers, Sound}
 use Rattle.least_move.proofs.Flow.{at-label}
@@ -25,7 +25,7 @@ use Rattle.core_elimination.proofs.TreeFlow.{isSeen, toward, Hangs, away, back,
 use Rattle.core_breaking.specs.declared.Break.the-variants.{At}
 use Rattle.core_breaking.specs.declared.Side.{Side}
 use Rattle.core_breaking.specs.Breaking.{candidateOf, losingEnd}
-use Rattle.core_forest.specs.Problem.{Problem, Limits, kindOf, graphOf, marksOf, numbersOf}
+use Rattle.core_forest.specs.Problem.{Problem, Limits, graphOf, marksOf, numbersOf}
 use Rattle.core_advance.specs.Side.{SideFound, shareOf}
 use Rattle.core_breaking.proofs.BreakingPoints.{breaks-at, MadeOf, made-of}
 use Rattle.core_elimination.proofs.SearchedBlock.{limits-graph, of-block, gaps-inside, block-eliminates, load-flow, surplus-flow}

@@ -1,8 +1,7 @@
 -- The kinds of gaps as bytes.
 use mathlib.Core.Path.{_≡_, refl}
 use Prim.Native.Nat.{ℕ, zero, suc}
-use Rattle.least_move.specs.Sheet.{at-least}
-use Rattle.core_forest.specs.Problem.{kindOf}
+use Rattle.least_move.specs.Sheet.{at-least, kindOf}
 
 -- 0 alone stands for at least
 pub kind-least : (b : ℕ) → kindOf b ≡ at-least → b ≡ 0

@@ -1,11 +1,11 @@
 -- A sheet as the core's work arrays hold it, and its whole numbers.
-use Prim.Native.Nat.{ℕ, zero, suc, _≤_, _<_}
+use Prim.Native.Nat.{ℕ, _≤_, _<_}
 use mathlib.Core.Bool.{Bool}
 use mathlib.Core.List.{List, []}
 use lib.Dec.{eqb}
 use lib.IntN.{ℤ, pos, natAbs}
 use lib.Signed.{_≤ℤ_}
-use Rattle.least_move.specs.Sheet.{Sheet, label, Kind, at-least, exactly, ignored}
+use Rattle.least_move.specs.Sheet.{Sheet, label, kindOf}
 use Rattle.least_move.specs.States.{Numbers, Independent}
 use Rattle.core_forest.specs.Tree.{Graph}
 use Rattle.ground.specs.Entries.{nat, int}
@@ -33,12 +33,6 @@ pub record Limits (p : Problem) : Type 0 where
   pub wanted-most : (i : ℕ) → i < p .labels → natAbs (int (p .wanted) i) ≤ coreWantedMost
   pub weight-least : (i : ℕ) → i < p .labels → pos 1 ≤ℤ int (p .weight) i
   pub weight-most : (i : ℕ) → i < p .labels → int (p .weight) i ≤ℤ pos coreWeightMost
-
--- 0 is at least, 1 exactly, anything else ignored
-abbrev pub kindOf : ℕ → Kind
-kindOf zero = at-least
-kindOf (suc zero) = exactly
-kindOf (suc (suc k)) = ignored
 
 abbrev pub graphOf : Problem → List ℕ → Graph
 graphOf p mark = record { labels = p .labels; gaps = p .gaps; left = p .left; right = p .right; distance = p .distance; mark = mark }

@@ -20,16 +20,15 @@ use Rattle.exact.proofs.Divisor.{gauss}
 use Rattle.algebra.proofs.Quotient.{natAbs-*, natAbs-above}
 use Rattle.ground.specs.declared.Label.{Label}
 use Rattle.ground.specs.declared.GapNumber.{GapNumber}
-use Rattle.least_move.specs.Sheet.{Sheet, Gap, ignored, label, gapNumber}
+use Rattle.least_move.specs.Sheet.{Sheet, Gap, ignored, label, gapNumber, kindOf}
 use Rattle.least_move.specs.Placement.{Placement, Holds, Tight}
 use Rattle.least_move.specs.Multipliers.{Multipliers, Conditions, Lawful, counted, asRight, asLeft}
 use Rattle.least_move.specs.Marks.{Step, start, finish, Leads, Marks, MarkedRing}
-use Rattle.least_move.specs.Ring.{Ring, Passable, distanceOf, distanceSum, OnceLeft}
+use Rattle.least_move.specs.Ring.{Ring, Passable, distanceOf, distanceSum, OnceLeft, stepsOf, IsRing}
 use Rattle.ground.specs.Entries.{nat, int, Each}
-use Rattle.core_forest.specs.Problem.{Problem, Limits, kindOf, marksOf, sheetFrom}
+use Rattle.core_forest.specs.Problem.{Problem, Limits, marksOf, sheetFrom}
 use Rattle.core_balance.specs.Places.{DenMost}
 use Rattle.core_balance.proofs.Placing.{den-limit}
-use Rattle.core_ring.specs.Way.{stepsOf, IsRing}
 use Rattle.core_settle.specs.Settle.{RingStands}
 use Rattle.core_project.specs.Core.{Asked, CorePlaced}
 use Rattle.core_project.specs.Project.{Copied, FrontWritten, FractionsWritten, Buffers, Ready, Solved, RingGiven, problemOf}

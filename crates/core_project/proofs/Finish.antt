@@ -14,7 +14,7 @@ use Rattle.algebra.specs.Sum.{ind}
 use Rattle.exact.proofs.Fractions.{AtScale}
 use Rattle.ground.specs.declared.Label.{Label}
 use Rattle.ground.specs.declared.GapNumber.{GapNumber}
-use Rattle.least_move.specs.Sheet.{Kind, at-least, exactly}
+use Rattle.least_move.specs.Sheet.{Kind, at-least, exactly, kindOf}
 use Rattle.least_move.specs.Placement.{Placement, HoldsWith}
 use Rattle.least_move.specs.Multipliers.{Multipliers, Conditions}
 use Rattle.least_move.specs.Marks.{Marks}
@@ -24,7 +24,7 @@ use Rattle.least_move.proofs.Flow.{flow-lin}
 use Rattle.least_move.proofs.Sides.{places-agree}
 use Rattle.least_move.proofs.Unscaled.{sound-proper, conditions-of, marks-of, meets-of-numbers, reduced-scale}
 use Rattle.ground.specs.Entries.{nat, int}
-use Rattle.core_forest.specs.Problem.{Problem, Limits, marksOf, numbersOf, kindOf, withKind, sheetFrom}
+use Rattle.core_forest.specs.Problem.{Problem, Limits, marksOf, numbersOf, withKind, sheetFrom}
 use Rattle.core_worst_gap.specs.WorstGap.{slackAt}
 use Rattle.core_worst_gap.proofs.WorstGap.{slack-least, slack-none}
 use Rattle.core_standing.specs.Standing.{Standing, AllHold}

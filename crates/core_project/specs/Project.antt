@@ -14,7 +14,7 @@ use Rattle.least_move.specs.Marks.{Marks}
 use Rattle.ground.specs.Entries.{nat, int, Filled}
 use Rattle.core_forest.specs.Problem.{Problem, Limits, marksOf, sheetFrom}
 use Rattle.core_balance.specs.Places.{DenMost}
-use Rattle.core_ring.specs.Way.{stepsOf, IsRing}
+use Rattle.least_move.specs.Ring.{stepsOf, IsRing}
 use Rattle.core_project.specs.declared.Projected.{Projected}
 use Rattle.core_project.specs.declared.Projected.the-variants.{Placed, Ring}
 use Rattle.core_project.specs.Core.{Asked, fraction}

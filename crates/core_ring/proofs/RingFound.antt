@@ -6,23 +6,21 @@ use mathlib.Core.List.{List, [], _∷_, map}
 use Prim.Native.Nat.{ℕ, zero, suc, _≤_, _<_}
 use native.Mathlib.Omega.{arith}
 use lib.Dec.{eqb, ltb}
-use lib.ListN.{length, take, replicate}
+use lib.ListN.{take}
 use lib.IntN.{ℤ, pos, negℤ, _+ℤ_, _-ℤ_, _*ℤ_, *ℤ-zero}
 use lib.Signed.{_<ℤ_}
 use borrow.Author.Tests.{ltb-true, lt-ltb, eqb-true, eqb-false, eq-eqb, ne-eqb}
 use Rattle.algebra.proofs.Whole.{*ℤ-lt-cancel}
 use Rattle.algebra.proofs.Ring.{ring, quotes}
-use Rattle.least_move.specs.Sheet.{Sheet, Kind, at-least, exactly, ignored, label}
+use Rattle.least_move.specs.Sheet.{Sheet, Kind, at-least, exactly, ignored, label, kindOf}
 use Rattle.least_move.specs.Marks.{Step, start, finish, Leads}
-use Rattle.least_move.specs.Ring.{Ring, Passable, distanceOf, distanceSum, OnceLeft}
-use Rattle.least_move.specs.Bench.{RingOf}
-use Rattle.least_move.specs.Marks.{forwards}
+use Rattle.least_move.specs.Ring.{Ring, Passable, distanceOf, distanceSum, OnceLeft, stepOf, stepsOf, IsRing}
 use Rattle.least_move.specs.States.{viol, Numbers, Pushed, Pushes}
 use Rattle.core_forest.specs.Tree.{Linked}
 use Rattle.ground.specs.Entries.{nat, int, Each}
-use Rattle.core_forest.specs.Problem.{Problem, Limits, kindOf, graphOf, marksOf, numbersOf, sheetFrom}
+use Rattle.core_forest.specs.Problem.{Problem, Limits, graphOf, marksOf, numbersOf, sheetFrom}
 use Rattle.core_advance.specs.Advance.{Blocked}
-use Rattle.core_ring.specs.Way.{Climbable, WayWritten, wayFrom, gapAbove, backAt, stepOf, stepsOf, IsRing}
+use Rattle.core_ring.specs.Way.{Climbable, WayWritten, wayFrom, gapAbove, backAt}
 use Rattle.core_ring.proofs.Climb.{way-more, way-done}
 use Rattle.ground.proofs.Each.{each-map}
 
@@ -44,14 +42,6 @@ passable : (k : Kind) (t : Bool) → k ≢ ignored → (k ≡ at-least → t ≡
 passable at-least t h f = f refl
 passable exactly t h f = tt
 passable ignored t h f = absurd (h refl)
-
-map-const : (l : List ℕ) → map {B = ℕ} (λ _. 0) l ≡ replicate (length l) 0
-map-const [] = refl
-map-const (x ∷ l) = ap (λ (r : List ℕ). 0 ∷ r) (map-const l)
-
-map-twice : {A : Type 0} (g : ℕ → A) (f : ℕ → ℕ) (l : List ℕ) → map g (map f l) ≡ map (λ x. g (f x)) l
-map-twice g f [] = refl
-map-twice {A} g f (x ∷ l) = ap (λ (r : List A). g (f x) ∷ r) (map-twice g f l)
 
 steps-map : (f g : ℕ → ℕ) (l : List ℕ) → stepsOf (map f l) (map g l) ≡ map (λ x. stepOf (f x) (g x)) l
 steps-map f g [] = refl
@@ -145,13 +135,6 @@ PushesAs true z k a b h = (z .v k ≡ a) × (z .u k ≡ b) × (pos 0 -ℤ z .g k
 pub pushes-of : (backwards : Bool) (z : Numbers) (k a b : ℕ) (h : ℤ) → PushesAs backwards z k a b h → Pushes z k a b h
 pushes-of false z k a b h q = inl q
 pushes-of true z k a b h q = inr q
-
-forwards-first : (backwards : Bool) (z : Numbers) (k a b : ℕ) (h : ℤ) → PushesAs backwards z k a b h → z .kind k ≡ at-least → backwards ≡ false
-forwards-first false z k a b h q e = refl
-forwards-first true z k a b h q e = absurd (not-exact (sym e ∙ q .3))
-  where
-    not-exact : at-least ≢ exactly
-    not-exact f = let n : _≡_ {A = ℕ} 0 1 = cc in omega arith
 
 abbrev pub May : Sheet → Step → Type 0
 May s t = (t .by .0 < s .gaps) × Passable (s .gap (t .by) .kind) (t .backwards)
@@ -324,35 +307,3 @@ module _ {p : Problem} {mark : List ℕ} {a b : ℕ} {at queue via up : List ℕ
       where
         written : stepsOf (take size ring) (take size back) ≡ stepOf c (cond backwards 1 0) ∷ map (stepUp p via) (wayFrom 48 up a b)
         written = ap₂ stepsOf (w .gaps) (w .backs) ∙ ap (λ (r : List Step). stepOf c (cond backwards 1 0) ∷ r) (steps-map (gapAbove via) (backAt (p .left) via) (wayFrom 48 up a b))
-
-  -- ---- gaps of the kind at least alone are passed forwards
-  module _ (all : (e : ℕ) → e < p .gaps → nat (p .kind) e ≡ 0) where
-    forwards-up : (x : ℕ) → on bl x ≡ true → x ≢ a → backAt (p .left) via x ≡ 0
-    forwards-up x e ne = ⊎-elim forth-byte (λ (j : Back p via up x). absurd (j .kind (ap kindOf (all (nat via x) (hangs bl x e ne .linked .gap-in))))) (ends x e ne)
-
-    -- what the way's labels give, if it is the same for every label
-    forwards-way : {A : Type 0} (f : ℕ → ℕ → A) (n x : ℕ) → on bl x ≡ true → map (λ y. f y (backAt (p .left) via y)) (wayFrom n up a x) ≡ map (λ y. f y 0) (wayFrom n up a x)
-    forwards-way f zero x e = refl
-    forwards-way {A} f (suc n) x e = at-root (λ y. forwards-way f n y) (eqb x a) refl
-      where
-        Same : List ℕ → Type 0
-        Same way = map (λ y. f y (backAt (p .left) via y)) way ≡ map (λ y. f y 0) way
-
-        at-root : ((y : ℕ) → on bl y ≡ true → Same (wayFrom n up a y)) → (t : Bool) → eqb x a ≡ t → Same (wayFrom (suc n) up a x)
-        at-root next true q = subst Same (sym (way-done (suc n) up a x (eqb-true x a q))) refl
-        at-root next false q =
-            let ne : x ≢ a = eqb-false x a q in
-            subst Same (sym (way-more n up a x ne)) (ap₂ (λ z (l : List A). f x z ∷ l) (forwards-up x e ne) (next (nat up x) (hangs bl x e ne .on-up)))
-
-    pub ring-list : b < p .labels → (backwards : Bool) (c : ℕ) (h : ℤ) → c < p .gaps → PushesAs backwards (numbersOf p) c a b h → {size : ℕ} {ring back : List ℕ} → WayWritten c backwards a b (p .left) via up size ring back → take size back ≡ replicate size 0
-    ring-list lb backwards c h l q w =
-        w .backs
-        ∙ ap₂ (λ (t : Bool) (r : List ℕ). cond t 1 0 ∷ r) (forwards-first backwards (numbersOf p) c a b h q (ap kindOf (all c l))) (forwards-way (λ _ z. z) 48 b (on-start bl lb) ∙ map-const (wayFrom 48 up a b))
-        ∙ ap (λ n. replicate n 0) (sym (w .count))
-
-    -- the ring as document 01 writes it
-    pub ring-forwards : {h : ℤ} {num den : ℕ → ℤ} → Pushed (numbersOf p) (marksOf mark) a b h num den → Limits p → b < p .labels → (backwards : Bool) (c : ℕ) → c < p .gaps → PushesAs backwards (numbersOf p) c a b h → {size : ℕ} {ring back : List ℕ} → WayWritten c backwards a b (p .left) via up size ring back → RingOf (sheetFrom p) (take size ring)
-    ring-forwards {h} pu lim lb backwards c l q w =
-        subst (RingOf (sheetFrom p)) (sym (w .gaps))
-        (subst (Ring (sheetFrom p) (forwards c)) (forwards-way (λ y z. stepOf (nat via y) z) 48 b (on-start bl lb) ∙ sym (map-twice forwards (gapAbove via) (wayFrom 48 up a b)))
-        (subst (λ (t : Bool). Ring (sheetFrom p) (stepOf c (cond t 1 0)) (map (stepUp p via) (wayFrom 48 up a b))) (forwards-first backwards (numbersOf p) c a b h q (ap kindOf (all c l))) (ring-found pu lim lb backwards c l q)))

@@ -11,7 +11,7 @@ use Rattle.ground.specs.Entries.{nat, int}
 use Rattle.core_forest.specs.Problem.{Problem, numbersOf, sheetFrom}
 use Rattle.core_balance.specs.Balance.{Remarked}
 use Rattle.core_balance.specs.Hanging.{Beyond}
-use Rattle.core_ring.specs.Way.{stepsOf, IsRing}
+use Rattle.least_move.specs.Ring.{stepsOf, IsRing}
 use Rattle.core_settle.specs.declared.Found.{Found}
 use Rattle.core_settle.specs.declared.Found.the-variants.{Placed}
 use Rattle.core_settle.specs.declared.Found.the-variants as rings

@@ -21,10 +21,9 @@ use Rattle.exact.specs.Fraction.{IsFraction, fractionAt, _⊖_}
 use Rattle.exact.specs.Slack.{Measurable, difference}
 use Rattle.exact.proofs.Slacks.{difference-above, sign-least, sign-least-back, sign-none, sign-none-back, sign-below, sign-below-back, sign-above, sign-above-back}
 use Rattle.ground.specs.declared.GapNumber.{GapNumber}
-use Rattle.least_move.specs.Sheet.{exactly, ignored}
+use Rattle.least_move.specs.Sheet.{exactly, ignored, kindOf}
 use Rattle.least_move.specs.Placement.{HoldsWith}
 use Rattle.ground.specs.Entries.{nat, int}
-use Rattle.core_forest.specs.Problem.{kindOf}
 use Rattle.core_worst_gap.specs.declared.Lead.{Lead}
 use Rattle.core_worst_gap.specs.declared.Worst.{Worst}
 use Rattle.core_worst_gap.specs.declared.Worst.the-variants.{Nothing, Gap}

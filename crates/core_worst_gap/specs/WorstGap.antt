@@ -10,10 +10,9 @@ use lib.Signed.{_≤ℤ_, _<ℤ_}
 use Rattle.exact.specs.declared.Fraction.{Fraction}
 use Rattle.exact.specs.Fraction.{fractionAt}
 use Rattle.exact.specs.Slack.{slackBetween}
-use Rattle.least_move.specs.Sheet.{exactly, ignored}
+use Rattle.least_move.specs.Sheet.{exactly, ignored, kindOf}
 use Rattle.least_move.specs.Placement.{HoldsWith}
 use Rattle.ground.specs.Entries.{nat, int}
-use Rattle.core_forest.specs.Problem.{kindOf}
 use Rattle.core_worst_gap.specs.declared.Lead.{Lead}
 use Rattle.core_worst_gap.specs.declared.Worst.{Worst}
 use Rattle.core_worst_gap.specs.declared.Worst.the-variants.{Nothing, Gap}

@@ -20,7 +20,7 @@ use Rattle.ground.specs.Answers.{numberOf, refusedPlace, refusal}
 use Rattle.text_rows.specs.Bytes.{bytes}
 use Rattle.text_rows.specs.Lines.{fields, lines}
 use Rattle.text_rows.specs.Numeral.{allDigits, digitsOf, number, signed, valueOf, weightOf}
-use Rattle.text_rows.specs.Taking.{noField, rowOf, same}
+use Rattle.text_rows.specs.Taking.{noField, rowOf, sameBytes}
 use Rattle.text_reading.specs.declared.Reading.the-variants.{Sheet}
 use Rattle.text_reading.specs.Texts.{Lists, readFrom, reading}
 use Rattle.text_listing.specs.Listing.{Listable, listedIn, refusedRecord}
@@ -41,7 +41,7 @@ gaps-for-labels same = omega arith
 pub slip-told :
     {x y n : ℕ} {before after : Lists} {out-after : List ℕ} → ReadTold (bytes "label,7,0,x") before (x ∷ y ∷ []) n after out-after
     → (n ≡ 14) × (after ≡ before) × (out-after ≡ 1 ∷ 4 ∷ [])
-unfolding reading readFrom rowOf same fields lines number signed weightOf allDigits valueOf
+unfolding reading readFrom rowOf sameBytes fields lines number signed weightOf allDigits valueOf
 slip-told t = (t .returned, t .lists, t .out-told)
 
 -- a fraction rounded upside down: a third is 0, and 3 is 3

@@ -66,7 +66,7 @@ fn put_signed(out: &mut [i64], at: usize, x: i64)
     }
 }
 
-// Lays out a sheet whose gaps are lent as three lists.
+// Lays out a sheet whose gaps are lent as lists.
 // Gives 0 for placed, else the refusal's number; out is told the place and the ring's length.
 #[no_mangle]
 pub extern "C" fn dirmoog_layout(
@@ -75,17 +75,19 @@ pub extern "C" fn dirmoog_layout(
     left: &[usize],
     right: &[usize],
     distance: &[i64],
+    kind: &[u8],
     carried: &mut [u8],
     place_num: &mut [i64],
     place_den: &mut [i64],
     mult_num: &mut [i64],
     mult_den: &mut [i64],
     ring: &mut [usize],
+    back: &mut [u8],
     out: &mut [usize],
 ) -> usize
     ensures { λ r.
-        let sheet = sheetLent wanted weight left right distance in
-        let room = roomLent carried «place_num» «place_den» «mult_num» «mult_den» ring in
+        let sheet = sheetLent wanted weight left right distance kind in
+        let room = roomLent carried «place_num» «place_den» «mult_num» «mult_den» ring back in
         ⌜ Laid sheet (room .entry) (before out) r (room .exit) (after out) ⌝ }
 {
     let answer = lay_out(
@@ -94,12 +96,14 @@ pub extern "C" fn dirmoog_layout(
         left,
         right,
         distance,
+        kind,
         carried,
         place_num,
         place_den,
         mult_num,
         mult_den,
         ring,
+        back,
     );
     let number = number_of(answer);
     put(out, 0, place_of(answer));

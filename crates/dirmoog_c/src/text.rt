@@ -53,13 +53,14 @@ pub extern "C" fn dirmoog_read(
     left: &mut [usize],
     right: &mut [usize],
     distance: &mut [i64],
+    kind: &mut [u8],
     out: &mut [usize],
 ) -> usize
     ensures { λ r.
-        let l = listsLent wanted weight left right distance in
+        let l = listsLent wanted weight left right distance kind in
         ⌜ ReadTold (before text) (l .entry) (before out) r (l .exit) (after out) ⌝ }
 {
-    let reading = read_sheet(text, wanted, weight, left, right, distance);
+    let reading = read_sheet(text, wanted, weight, left, right, distance, kind);
     let number = read_number(reading);
     put(out, 0, read_first(reading));
     put(out, 1, read_second(reading));

@@ -5,6 +5,7 @@ use mathlib.Core.List.{List, [], _∷_, _++_}
 use lib.ListN.{length, getD, take, drop}
 use lib.IntN.{ℤ, pos}
 use Rattle.ground.specs.declared.GapRecord.{GapRecord}
+use Rattle.ground.specs.Kinds.{atLeastByte}
 
 -- an entry of a list, zero past its end
 abbrev pub nat : List ℕ → ℕ → ℕ
@@ -20,7 +21,7 @@ Each P (x ∷ xs) = P x × Each P xs
 
 -- no gap: what stands past the end of a list of records
 abbrev pub noRecord : GapRecord
-noRecord = record { left = 0; right = 0; distance = pos 0 }
+noRecord = record { left = 0; right = 0; distance = pos 0; kind = atLeastByte }
 
 -- a list whose first n entries were written: "Entries beyond stay"
 pub record Filled {A : Type 0} (n : ℕ) (before after : List A) : Type 0 where

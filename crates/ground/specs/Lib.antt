@@ -1,4 +1,5 @@
 pub mod Limits
+pub mod Kinds
 pub mod Views
 pub mod Entries
 pub mod Answers

@@ -14,11 +14,12 @@ pub struct Block(pub u8);
 
 pub struct GapNumber(pub usize);
 
-// A gap as a station lends it in a list of records.
+// A gap as a station lends it in a list of records; its kind is AT_LEAST or EXACTLY of `limits`, and any other is refused.
 pub struct GapRecord {
     pub left: usize,
     pub right: usize,
     pub distance: i64,
+    pub kind: u8,
 }
 
 // A refusal: its number, its place, and with 9 the ring's length (else 0). Every answer that may be refused has it.

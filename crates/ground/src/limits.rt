@@ -17,6 +17,11 @@ pub const WEIGHT_LEAST: i64 = 1;
 
 pub const WEIGHT_MOST: i64 = 100;
 
+// A gap's kind: it asks for at least its distance, or for exactly that.
+pub const AT_LEAST: u8 = 0;
+
+pub const EXACTLY: u8 = 1;
+
 // A place that is rounded or whose slack is asked for: its denominator at most, its numerator either way.
 pub const PLACE_DEN_MOST: i64 = 4800;
 

@@ -19,8 +19,8 @@ use text_rows::lines::Cursor;
 use text_rows::lines::line_at;
 ghost use Prim.Native.Nat.{_≤_};
 ghost use lib.ListN.{length};
-ghost use Rattle.core_forest.specs.Problem.{Limits};
-ghost use Rattle.hard_sheets.specs.Hard.{plain};
+ghost use Rattle.core_forest.specs.Problem.{Limits, problemNow};
+ghost use Rattle.hard_sheets.specs.Hard.{fronts};
 
 // Whether the outer loop runs on a sheet: `core_project` makes this very call, and goes on to the outer loop where the answer
 // is that some gap does not hold.
@@ -30,13 +30,13 @@ fn outer_loop_runs(
     left: &GapIndices,
     right: &GapIndices,
     distance: &GapInts,
+    kind: &GapBytes,
     wanted: &LabelInts,
     weight: &LabelInts,
     carried: &GapBytes,
 ) -> bool
-    requires { ⌜ Limits (plain labels gaps (now left) (now right) (now distance) (now wanted) (now weight)) ⌝ }
+    requires { ⌜ Limits (problemNow labels gaps left right distance kind wanted weight) ⌝ }
 {
-    let kind = [0u8; GAPS];
     let mut mark = [0u8; GAPS];
     let mut num = [0i64; LABELS];
     let mut den = [0i64; LABELS];
@@ -48,7 +48,7 @@ fn outer_loop_runs(
         left,
         right,
         distance,
-        &kind,
+        kind,
         carried,
         wanted,
         weight,
@@ -67,6 +67,7 @@ fn answered(
     left: &[usize],
     right: &[usize],
     distance: &[i64],
+    kind: &[u8],
     carried: &mut [u8],
 ) -> Answer {
     let mut place_num = [0i64; LABELS];
@@ -74,18 +75,21 @@ fn answered(
     let mut mult_num = [0i64; GAPS];
     let mut mult_den = [0i64; GAPS];
     let mut ring = [0usize; LABELS];
+    let mut back = [0u8; LABELS];
     lay_out(
         wanted,
         weight,
         left,
         right,
         distance,
+        kind,
         carried,
         &mut place_num,
         &mut place_den,
         &mut mult_num,
         &mut mult_den,
         &mut ring,
+        &mut back,
     )
 }
 
@@ -123,11 +127,12 @@ fn show_call(
     left: GapIndices,
     right: GapIndices,
     distance: GapInts,
+    kind: GapBytes,
     wanted: LabelInts,
     weight: LabelInts,
     mut carried: GapBytes,
 ) -> usize
-    requires { ⌜ Limits (plain labels gaps left right distance wanted weight) ⌝ }
+    requires { ⌜ Limits (fronts labels gaps left right distance kind wanted weight) ⌝ }
     ensures { λ r. ⌜ r ≤ 1 ⌝ }
 {
     let runs = outer_loop_runs(
@@ -136,6 +141,7 @@ fn show_call(
         &left,
         &right,
         &distance,
+        &kind,
         &wanted,
         &weight,
         &carried,
@@ -146,6 +152,7 @@ fn show_call(
         &left[..gaps],
         &right[..gaps],
         &distance[..gaps],
+        &kind[..gaps],
         &mut carried[..gaps],
     );
     let counted = print_way(runs);
@@ -164,6 +171,20 @@ fn every_second() -> GapBytes {
     record
 }
 
+// Writes the name of a call's carried record, and hands the record out: zeros, ones, or every second gap marked.
+fn record_of(call: usize) -> GapBytes {
+    if call == 0 {
+        io::write_all(1, b"  zeros: ");
+        return [0u8; GAPS];
+    }
+    if call == 1 {
+        io::write_all(1, b"  ones: ");
+        return [1u8; GAPS];
+    }
+    io::write_all(1, b"  every second: ");
+    every_second()
+}
+
 // Lays a sheet out from three carried records. Counts the calls in which the outer loop ran.
 fn show_sheet(
     labels: usize,
@@ -171,22 +192,31 @@ fn show_sheet(
     left: GapIndices,
     right: GapIndices,
     distance: GapInts,
+    kind: GapBytes,
     wanted: LabelInts,
     weight: LabelInts,
 ) -> usize
-    requires { ⌜ Limits (plain labels gaps left right distance wanted weight) ⌝ }
+    requires { ⌜ Limits (fronts labels gaps left right distance kind wanted weight) ⌝ }
     ensures { λ r. ⌜ r ≤ 3 ⌝ }
 {
-    let zeros = [0u8; GAPS];
-    let ones = [1u8; GAPS];
-    let seconds = every_second();
-    io::write_all(1, b"  zeros: ");
-    let none = show_call(labels, gaps, left, right, distance, wanted, weight, zeros);
-    io::write_all(1, b"  ones: ");
-    let all = show_call(labels, gaps, left, right, distance, wanted, weight, ones);
-    io::write_all(1, b"  every second: ");
-    let half = show_call(labels, gaps, left, right, distance, wanted, weight, seconds);
-    none + all + half
+    let mut ran: usize = 0;
+    let mut call: usize = 0;
+    while call < 3 {
+        let carried = record_of(call);
+        ran += show_call(
+            labels,
+            gaps,
+            left,
+            right,
+            distance,
+            kind,
+            wanted,
+            weight,
+            carried,
+        );
+        call += 1;
+    }
+    ran
 }
 
 // Checks a sheet in the front of arrays, and lays it out. Every sheet here passes, and is no longer than they are.
@@ -196,6 +226,7 @@ fn show_read(
     left: GapIndices,
     right: GapIndices,
     distance: GapInts,
+    kind: GapBytes,
     wanted: LabelInts,
     weight: LabelInts,
 ) -> usize
@@ -213,6 +244,7 @@ fn show_read(
         multipliers: gaps,
         multiplier_dens: gaps,
         ring: labels,
+        back: labels,
         carried: gaps,
     };
     let checked = check(
@@ -221,12 +253,13 @@ fn show_read(
         &left[..gaps],
         &right[..gaps],
         &distance[..gaps],
+        &kind[..gaps],
         room,
     );
     let Checked::Pass = checked else {
         return 0;
     };
-    show_sheet(labels, gaps, left, right, distance, wanted, weight)
+    show_sheet(labels, gaps, left, right, distance, kind, wanted, weight)
 }
 
 // Reads a sheet's text, and lays the sheet out. Every text here is a sheet.
@@ -238,6 +271,7 @@ fn show_text(text: &[u8]) -> usize
     let mut left = [0usize; GAPS];
     let mut right = [0usize; GAPS];
     let mut distance = [0i64; GAPS];
+    let mut kind = [0u8; GAPS];
     let found = read_sheet(
         text,
         &mut wanted,
@@ -245,6 +279,7 @@ fn show_text(text: &[u8]) -> usize
         &mut left,
         &mut right,
         &mut distance,
+        &mut kind,
     );
     let Reading::Sheet(counts) = found else {
         return 0;
@@ -255,6 +290,7 @@ fn show_text(text: &[u8]) -> usize
         left,
         right,
         distance,
+        kind,
         wanted,
         weight,
     )

@@ -1,12 +1,12 @@
 -- What a call on each sheet of the bench comes to: the table lets all of them pass, by one test computed over the list,
 -- and then the promise and what is right of the case leave one answer.
-use Prim.Native.Nat.{ℕ, zero, suc, _<_}
+use Prim.Native.Nat.{ℕ, _<_}
 use mathlib.Core.Path.{_≡_, refl, sym, _∙_, ap, ap₂, subst}
 use mathlib.Core.Bool.{Bool, true, false}
-use mathlib.Core.List.{List, [], _∷_, _++_, map, List·Memᴰ, List·Memᴰ·head, List·Memᴰ·tail}
+use mathlib.Core.List.{List, _∷_, List·Memᴰ, Memᴰ·append-left, Memᴰ·append-right}
 use native.Mathlib.Omega.{arith}
 use lib.Dec.{T}
-use lib.ListN.{length, getD, take, length-map, List·getD-map}
+use lib.ListN.{length, getD, length-map, List·getD-map}
 use lib.IntN.{pos}
 use Rattle.exact.specs.Fraction.{LowestTerms, whole}
 use Rattle.exact.proofs.Divisor.{lowest-unique}
@@ -16,21 +16,23 @@ use Rattle.ground.specs.declared.GapNumber.{GapNumber}
 use Rattle.ground.specs.declared.Label.{Label}
 use Rattle.ground.specs.Answers.{refusal, ringLengthOf}
 use Rattle.ground.specs.Entries.{Each}
-use Rattle.least_move.specs.Sheet.{Sheet, Proper, at-least, label}
+use Rattle.least_move.specs.Sheet.{Sheet, Proper, kindOf, label}
 use Rattle.least_move.specs.Placement.{Feasible}
 use Rattle.least_move.specs.Multipliers.{Conditions}
 use Rattle.least_move.specs.Ring.{Ring}
-use Rattle.least_move.specs.Bench.{WrittenGap, Source, given, worked-out, Placed, Refused, Case, placed, refused, moved, P1, bench, placement, multipliers, written, RightPlaced, RightRefused, OnlyMultipliers, passes, _to_of_}
+use Rattle.least_move.specs.Bench.{WrittenGap, Source, given, worked-out, Placed, Refused, Case, placed, refused, moved}
+use Rattle.least_move.specs.Bench.{P1, bench, placement, multipliers, written, RightPlaced, RightRefused, OnlyMultipliers, _to_of_}
 use Rattle.least_move.specs.Bench as bench
 use Rattle.least_move.proofs.Bench.{Test, granted, _on_, each, bench-right}
+use Rattle.least_move.proofs.Opposite.{entry}
 use Rattle.least_move.proofs.Places.{conditions-places}
 use Rattle.sheet_checks.specs.declared.Checked.{Checked}
 use Rattle.sheet_checks.specs.declared.Checked.the-variants as checked
-use Rattle.sheet_checks.specs.Lent.{Written, labelCount, gapCount, atLeast, sheetOf, placeOf, multiplierOf}
+use Rattle.sheet_checks.specs.Lent.{Written, labelCount, gapCount, gapOf, sheetOf, placeOf, multiplierOf}
 use Rattle.sheet_checks.specs.Refusals.{offenderBelow, tableOf, ragged, rows, table}
 use Rattle.sheet_checks.proofs.Passed.{passed-proper}
-use Rattle.least_move.specs.Marks.{Step, forwards}
-use Rattle.layout.specs.Promise.{Promise, Accepted, RingGiven}
+use Rattle.least_move.specs.Marks.{Step}
+use Rattle.layout.specs.Promise.{Promise, Accepted, RingGiven, stepsTold}
 use Rattle.layout.specs.BenchCalls.{Form, as-lists, as-records, recordOf, lend, LentWith, EachCall, MultipliersSo, PlacedSo, RefusedSo, AnsweredSo}
 use Rattle.layout.proofs.Facts.{judged, placed-accepted, places-known}
 
@@ -90,7 +92,7 @@ lent-passes f s l fits = lent-table f s l ∙ fits
 
 -- ---- both forms tell the sheet that is written
 
-lend-same : (f : Form) (s : bench.Written) → sheetOf (lend f s) ≡ written s
+pub lend-same : (f : Form) (s : bench.Written) → sheetOf (lend f s) ≡ written s
 unfolding sheetOf
 lend-same as-lists s = λ j. record {
   labels = length (s .wants);
@@ -101,7 +103,7 @@ lend-same as-lists s = λ j. record {
     left = label (List·getD-map (λ (g : WrittenGap). g .left) (s .gaps) (e .0) (0 to 0 of pos 0) j);
     right = label (List·getD-map (λ (g : WrittenGap). g .right) (s .gaps) (e .0) (0 to 0 of pos 0) j);
     distance = List·getD-map (λ (g : WrittenGap). g .distance) (s .gaps) (e .0) (0 to 0 of pos 0) j;
-    kind = at-least;
+    kind = kindOf (List·getD-map (λ (g : WrittenGap). g .kind) (s .gaps) (e .0) (0 to 0 of pos 0) j);
   };
 }
 lend-same as-records s = λ j. record {
@@ -109,32 +111,17 @@ lend-same as-records s = λ j. record {
   gaps = length-map (s .gaps) recordOf j;
   wanted = λ i. getD (s .wants) (i .0) (pos 0);
   weight = λ i. getD (s .weights) (i .0) (pos 0);
-  gap = λ e. atLeast (List·getD-map recordOf (s .gaps) (e .0) (0 to 0 of pos 0) j);
+  gap = λ e. gapOf (List·getD-map recordOf (s .gaps) (e .0) (0 to 0 of pos 0) j);
 }
 
 -- ---- what a call comes to
 
--- an entry of a list is in the list, and so in one that follows or precedes another
-entry : {A : Type 0} (xs : List A) (k : ℕ) (none : A) → k < length xs → List·Memᴰ (getD xs k none) xs
-entry [] k none h = absurd (omega arith)
-entry (x ∷ xs) zero none h = List·Memᴰ·head refl
-entry (x ∷ xs) (suc k) none h = List·Memᴰ·tail (entry xs k none (omega arith))
-
-entry-first : {A : Type 0} (xs ys : List A) (k : ℕ) (none : A) → k < length xs → List·Memᴰ (getD xs k none) (xs ++ ys)
-entry-first [] ys k none h = absurd (omega arith)
-entry-first (x ∷ xs) ys zero none h = List·Memᴰ·head refl
-entry-first (x ∷ xs) ys (suc k) none h = List·Memᴰ·tail (entry-first xs ys k none (omega arith))
-
-entry-second : {A : Type 0} (xs ys : List A) (k : ℕ) (none : A) → k < length ys → List·Memᴰ (getD ys k none) (xs ++ ys)
-entry-second [] ys k none h = entry ys k none h
-entry-second (x ∷ xs) ys k none h = List·Memᴰ·tail (entry-second xs ys k none h)
-
 module _ (c : Placed) (right : RightPlaced c) (fits : FitsBoth (c .sheet)) where
   place-lowest : (i : Label) → i .0 < length (c .sheet .wants) → LowestTerms (placement c i)
-  place-lowest i h = right .lowest (placement c i) (entry-first (c .places) (c .multipliers) (i .0) (whole (pos 0)) (omega (arith, right .per-label)))
+  place-lowest i h = right .lowest (placement c i) (Memᴰ·append-left (c .multipliers) (entry (c .places) (i .0) (whole (pos 0)) (omega (arith, right .per-label))))
 
   multiplier-lowest : (e : GapNumber) → e .0 < length (c .sheet .gaps) → LowestTerms (multipliers c e)
-  multiplier-lowest e h = right .lowest (multipliers c e) (entry-second (c .places) (c .multipliers) (e .0) (whole (pos 0)) (omega (arith, right .per-gap)))
+  multiplier-lowest e h = right .lowest (multipliers c e) (Memᴰ·append-right (c .places) (entry (c .multipliers) (e .0) (whole (pos 0)) (omega (arith, right .per-gap))))
 
   module _ (f : Form) (w : Written) (a : Answer) (after : Written) (l : LentWith f (c .sheet) w) (promise : Promise (lend f (c .sheet)) w a after) where
     same : sheetOf (lend f (c .sheet)) ≡ written (c .sheet)
@@ -170,29 +157,24 @@ module _ (c : Placed) (right : RightPlaced c) (fits : FitsBoth (c .sheet)) where
   placed-so : EachCall (c .sheet) (PlacedSo c)
   placed-so f w a after l promise = placed-once f w a after l promise
 
--- the numbers of gaps passed forwards
-numbers : (es : List ℕ) → map (λ (t : Step). t .by .0) (map forwards es) ≡ es
-numbers [] = refl
-numbers (e ∷ es) = ap (λ (l : List ℕ). e ∷ l) (numbers es)
-
 module _ (c : Refused) (right : RightRefused c) (fits : FitsBoth (c .sheet)) where
   module _ (f : Form) (a : Answer) (after w : Written) (told : a ≡ refusal 9 0 (ringLengthOf a)) (ring : RingGiven (sheetOf (lend f (c .sheet))) w after (ringLengthOf a)) where
-    -- every ring is the document's
-    known-ring : (suc (length (map forwards (ring .others))) ≡ length (c .ring)) × Each (λ e. List·Memᴰ e (passes (forwards (ring .first)) (map forwards (ring .others)))) (c .ring)
+    -- every ring is the case's
+    known-ring : (length (ring .first ∷ ring .others) ≡ length (c .ring)) × Each (λ t. List·Memᴰ t (ring .first ∷ ring .others)) (c .ring)
     known-ring =
-        right .only (forwards (ring .first)) (map forwards (ring .others))
-        (subst (λ (s : Sheet). Ring s (forwards (ring .first)) (map forwards (ring .others))) (lend-same f (c .sheet)) (ring .ring))
+        right .only (ring .first ∷ ring .others)
+        (subst (λ (s : Sheet). Ring s (ring .first) (ring .others)) (lend-same f (c .sheet)) (ring .ring))
 
     size : ringLengthOf a ≡ length (c .ring)
-    size = ring .counted ∙ ap suc (sym (length-map (ring .others) forwards)) ∙ known-ring .0
+    size = ring .counted ∙ known-ring .0
 
-    front : map (λ (t : Step). t .by .0) (forwards (ring .first) ∷ map forwards (ring .others)) ≡ take (length (c .ring)) (after .ring)
-    front = ap (λ (l : List ℕ). ring .first ∷ l) (numbers (ring .others)) ∙ sym (ring .front) ∙ ap (λ (n : ℕ). take n (after .ring)) size
+    front : ring .first ∷ ring .others ≡ stepsTold (length (c .ring)) after
+    front = sym (ring .front) ∙ ap (λ (n : ℕ). stepsTold n after) size
 
     refused-once : RefusedSo c a after
     refused-once = record {
       answered = told ∙ ap (refusal 9 0) size ∙ ap (λ (n : ℕ). refusal n 0 (length (c .ring))) (sym (right .number));
-      ring = subst (λ (l : List ℕ). Each (λ e. List·Memᴰ e l) (c .ring)) front (known-ring .1);
+      ring = subst (λ (l : List Step). Each (λ t. List·Memᴰ t l) (c .ring)) front (known-ring .1);
     }
 
   refused-so : EachCall (c .sheet) (RefusedSo c)

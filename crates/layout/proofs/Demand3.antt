@@ -13,14 +13,14 @@ use Rattle.algebra.proofs.Ring.{quotes, le-given, eq-given, le-goal}
 use Rattle.exact.proofs.Fractions.{whole-above}
 use Rattle.exact.proofs.Divisor.{lowest-unique}
 use Rattle.ground.specs.declared.Label.{Label}
-use Rattle.least_move.specs.Sheet.{Sheet, Gap, at-least, label}
+use Rattle.least_move.specs.Sheet.{Sheet, Gap, label}
 use Rattle.least_move.specs.Placement.{Placement, Feasible}
 use Rattle.least_move.specs.Moved.{SameButWants, Within}
 use Rattle.least_move.proofs.Laws.{largest-move}
 use Rattle.ground.specs.declared.Answer.{Answer}
 use Rattle.ground.specs.declared.Answer.the-variants.{Placed}
 use Rattle.ground.specs.declared.GapRecord.{GapRecord}
-use Rattle.sheet_checks.specs.Lent.{Read, Written, labelCount, sheetOf, placeOf}
+use Rattle.sheet_checks.specs.Lent.{Read, Written, labelCount, gapOf, sheetOf, placeOf}
 use Rattle.sheet_checks.specs.declared.Checked.the-variants.{Pass}
 use Rattle.sheet_checks.specs.Refusals.{table}
 use Rattle.layout.specs.Promise.{Promise, Accepted}
@@ -37,7 +37,7 @@ same-sheets r r′ same =
       labels = same .labels;
       gaps = same .gaps;
       weight = λ i h. same .weight (i .0) h;
-      gap = λ e h. ap {B = Gap} (λ (c : GapRecord). record { left = label (c .left); right = label (c .right); distance = c .distance; kind = at-least }) (same .gap (e .0) h);
+      gap = λ e h. ap {B = Gap} (λ (c : GapRecord). gapOf c) (same .gap (e .0) h);
     }
 
 same-sym : (s t : Sheet) → SameButWants s t → SameButWants t s

@@ -1,7 +1,9 @@
 pub mod Facts
 pub mod Demand3
+pub mod Opposite
 pub mod Same
 pub mod BenchCalls
 pub mod WrongParts
+pub mod WrongKinds
 pub mod Laws
 pub mod Judging

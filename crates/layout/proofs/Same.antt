@@ -15,10 +15,10 @@ use Rattle.least_move.proofs.Laws.{least-of-conditions, ring-excludes}
 use Rattle.core_project.proofs.Agreeing.{Agree, conditions-agree, marks-agree, ring-agree}
 use Rattle.sheet_checks.specs.declared.Checked.{Checked}
 use Rattle.sheet_checks.specs.declared.Checked.the-variants as checked
-use Rattle.sheet_checks.specs.Lent.{Read, Written, LentGaps, countOf, recordAt, atLeast, sheetOf, placeOf, multiplierOf}
-use Rattle.sheet_checks.specs.Refusals.{inTurn, offenderBelow, offender, sizeTests, tableOf, unequal, outside, roomOf, uneven, short, offPlate, badWeight, stranger, badGap, rows, table}
+use Rattle.sheet_checks.specs.Lent.{Read, Written, LentGaps, countOf, recordAt, gapOf, sheetOf, placeOf, multiplierOf}
+use Rattle.sheet_checks.specs.Refusals.{inTurn, offenderBelow, offender, sizeTests, tableOf, unequal, outside, roomOf, uneven}
+use Rattle.sheet_checks.specs.Refusals.{short, neither, offPlate, badWeight, stranger, badGap, badKind, rows, table}
 use Rattle.sheet_checks.proofs.Passed.{offender-same, passed-proper}
-use Rattle.least_move.specs.Marks.{forwards}
 use Rattle.layout.specs.Promise.{Promise, ByTable, Judged, Accepted, RingGiven}
 use Rattle.ground.specs.Entries.{Filled}
 use Rattle.ground.specs.Limits.{distanceMost}
@@ -40,6 +40,7 @@ module _ {s s′ : Sheet} (agree : Agree s s′) (proper′ : Proper s′) (w af
         mult-nums = subst (λ n. Filled n (w .mult-num) (after .mult-num)) (agree .gaps) (ok .mult-nums);
         mult-dens = subst (λ n. Filled n (w .mult-den) (after .mult-den)) (agree .gaps) (ok .mult-dens);
         ring = ok .ring;
+        back = ok .back;
         carried = subst (λ n. Filled n (w .carried) (after .carried)) (agree .gaps) (ok .carried);
         least = least-of-conditions s′ (placeOf after) (multiplierOf after) proper′ conditions;
         conditions = conditions;
@@ -55,13 +56,24 @@ module _ {s s′ : Sheet} (agree : Agree s s′) (proper′ : Proper s′) (w af
       conditions = conditions-agree agree (ok .conditions)
 
   ring-given-agree : {size : ℕ} → RingGiven s w after size → RingGiven s′ w after size
-  ring-given-agree x = record { first = x .first; others = x .others; front = x .front; counted = x .counted; ring = ring-agree agree (x .ring); rest = x .rest; stays = x .stays }
+  ring-given-agree x =
+      record {
+        first = x .first;
+        others = x .others;
+        front = x .front;
+        counted = x .counted;
+        ring = ring-agree agree (x .ring);
+        back-bytes = x .back-bytes;
+        rest = x .rest;
+        back-rest = x .back-rest;
+        stays = x .stays;
+      }
 
   judged-agree : {a : Answer} → Judged s w a after → Judged s′ w a after
   judged-agree (inl k) = inl (k .0, accepted-agree (k .1))
   judged-agree (inr k) =
       let given = ring-given-agree (k .2) in
-      inr (k .0, ring-excludes s′ proper′ (forwards (given .first)) (map forwards (given .others)) (given .ring), given)
+      inr (k .0, ring-excludes s′ proper′ (given .first) (given .others) (given .ring), given)
 
 -- ---- gaps lent in two ways
 
@@ -80,7 +92,7 @@ module _ (wanted weight : List ℤ) {g g′ : LentGaps} (same : SameGaps g g′)
         gaps = same .count;
         wanted = λ i h. refl;
         weight = λ i h. refl;
-        gap = λ e h. ap {B = Gap} (λ (c : GapRecord). atLeast c) (same .gap (e .0) h);
+        gap = λ e h. ap {B = Gap} (λ (c : GapRecord). gapOf c) (same .gap (e .0) h);
       }
 
   -- the rows of the gaps find the same
@@ -96,6 +108,12 @@ module _ (wanted weight : List ℤ) {g g′ : LentGaps} (same : SameGaps g g′)
       (λ k h. ap (λ (c : GapRecord). outside (negℤ (pos distanceMost)) (pos distanceMost) (c .distance)) (same .gap k h))
       ∙ ap (λ n. offenderBelow 8 n (badGap r′ .bad)) (same .count)
 
+  bad-kinds-same : offender (badKind r) ≡ offender (badKind r′)
+  bad-kinds-same =
+      offender-same 23 (badKind r .bad) (badKind r′ .bad) (countOf g)
+      (λ k h. ap (λ (c : GapRecord). neither (c .kind)) (same .gap k h))
+      ∙ ap (λ n. offenderBelow 23 n (badKind r′ .bad)) (same .count)
+
   -- the sizes' checks, from the gaps' number and whether their lists are uneven
   abbrev sizes : ℕ → Bool → List Checked
   sizes n u =
@@ -107,8 +125,10 @@ module _ (wanted weight : List ℤ) {g g′ : LentGaps} (same : SameGaps g g′)
   tables-same =
       ap (λ n. inTurn (sizes n (uneven g) ++ map offender (rows r))) (same .count)
       ∙ ap (λ u. inTurn (sizes (countOf g′) u ++ map offender (rows r))) (same .even)
-      ∙ ap₂ (λ (c d : Checked). inTurn (sizes (countOf g′) (uneven g′) ++ (offender (offPlate r) ∷ offender (badWeight r) ∷ c ∷ d ∷ [])))
+      ∙ ap₂ (λ (c d : Checked). inTurn (sizes (countOf g′) (uneven g′) ++ (offender (offPlate r) ∷ offender (badWeight r) ∷ c ∷ d ∷ offender (badKind r) ∷ [])))
       strangers-same bad-gaps-same
+      ∙ ap (λ (c : Checked). inTurn (sizes (countOf g′) (uneven g′) ++ (offender (offPlate r) ∷ offender (badWeight r) ∷ offender (stranger r′) ∷ offender (badGap r′) ∷ c ∷ [])))
+      bad-kinds-same
 
   -- what is promised of the one is promised of the other
   pub promise-same : (after : Written) (a : Answer) → Promise r w a after → Promise r′ w a after

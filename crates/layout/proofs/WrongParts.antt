@@ -55,7 +55,7 @@ abbrev pub zeros : bench.Written → Written
 zeros s =
     let places : List ℤ = replicate 2 (pos 0) in
     let multipliers : List ℤ = replicate (length (s .carried)) (pos 0) in
-    record { place-num = places; place-den = places; mult-num = multipliers; mult-den = multipliers; ring = replicate 2 0; carried = s .carried }
+    record { place-num = places; place-den = places; mult-num = multipliers; mult-den = multipliers; ring = replicate 2 0; back = replicate 2 0; carried = s .carried }
 
 -- what the wrong parts break is asked of calls that a station can make
 P1-lent : (f : Form) → LentWith f (P1 .sheet) (zeros (P1 .sheet))
@@ -78,9 +78,9 @@ Part = Read → Written → Answer × Written
 
 -- the gaps are lent in this form
 abbrev pub InForm : Form → LentGaps → Type 0
-InForm as-lists (lists l r g) = Unit {0}
+InForm as-lists (lists l r g k) = Unit {0}
 InForm as-lists (records gs) = ⊥
-InForm as-records (lists l r g) = ⊥
+InForm as-records (lists l r g k) = ⊥
 InForm as-records (records gs) = Unit {0}
 
 lent-so : (f : Form) (s : bench.Written) → InForm f (lend f s .gaps)

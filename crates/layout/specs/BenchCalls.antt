@@ -1,10 +1,11 @@
--- The cases of the bench as layout calls (document 01, "Sheets on the bench"; document 02, Items 3 and 4): what a call that
--- keeps its promise answers to each, lent in either form, whatever its buffers hold.
+-- The cases of the bench as layout calls (document 01, "Sheets on the bench"; document 02, Items 3, 4 and 6): what a call
+-- that keeps its promise answers to each, lent in either form, whatever its buffers hold. The parts that "must be shown to break
+-- a promise" are shown by it in proofs/WrongParts, and those of Item 6 in proofs/WrongKinds.
 use Prim.Native.Nat.{_<_}
 use mathlib.Core.Path.{_≡_}
 use mathlib.Core.Bool.{false}
 use mathlib.Core.List.{List, map, List·Memᴰ}
-use lib.ListN.{length, take}
+use lib.ListN.{length}
 use Rattle.ground.specs.declared.Answer.{Answer}
 use Rattle.ground.specs.declared.Answer.the-variants as answer
 use Rattle.ground.specs.declared.GapNumber.{GapNumber}
@@ -16,18 +17,19 @@ use Rattle.least_move.specs.Bench.{WrittenGap, Source, given, worked-out, Place
 use Rattle.least_move.specs.Bench as bench
 use Rattle.sheet_checks.specs.Lent.{LentGaps, lists, records, Read, Written, labelCount, gapCount, placeOf, multiplierOf}
 use Rattle.sheet_checks.specs.Refusals.{roomOf, short}
-use Rattle.layout.specs.Promise.{Promise}
+use Rattle.layout.specs.Promise.{Promise, stepsTold}
 
--- "one is lent the gaps as three lists, the other as records"
+-- "one is lent the gaps as three lists, the other as records"; the lists are four since Item 6
 pub data Form : Type 0 where
   as-lists : Form
   as-records : Form
 
 abbrev pub recordOf : WrittenGap → GapRecord
-recordOf g = record { left = g .left; right = g .right; distance = g .distance }
+recordOf g = record { left = g .left; right = g .right; distance = g .distance; kind = g .kind }
 
 abbrev pub lendGaps : Form → List WrittenGap → LentGaps
-lendGaps as-lists gs = lists (map (λ g. g .left) gs) (map (λ g. g .right) gs) (map (λ g. g .distance) gs)
+lendGaps as-lists gs =
+    lists (map (λ g. g .left) gs) (map (λ g. g .right) gs) (map (λ g. g .distance) gs) (map (λ g. g .kind) gs)
 lendGaps as-records gs = records (map recordOf gs)
 
 -- a sheet of the bench as it is lent
@@ -44,7 +46,7 @@ abbrev pub EachCall : bench.Written → (Answer → Written → Type 0) → Type
 EachCall s so =
     (f : Form) (w : Written) (a : Answer) (after : Written) → LentWith f s w → Promise (lend f s) w a after → so a after
 
--- the multipliers where the document gives them
+-- the multipliers where the case's are the only ones
 abbrev pub MultipliersSo : Placed → Source → Written → Type 0
 MultipliersSo c given after =
     (e : GapNumber) → e .0 < length (c .sheet .gaps) → multiplierOf after e ≡ multipliers c e
@@ -56,10 +58,10 @@ pub record PlacedSo (c : Placed) (a : Answer) (after : Written) : Type 0 where
   pub places : (i : Label) → i .0 < length (c .sheet .wants) → placeOf after i ≡ placement c i
   pub multipliers-so : MultipliersSo c (c .source) after
 
--- refused with this number, place 0 and a ring of these gaps, in whichever order it begins
+-- refused with this number, place 0 and a ring of these steps, from whichever it begins
 pub record RefusedSo (c : Refused) (a : Answer) (after : Written) : Type 0 where
   pub answered : a ≡ refusal (c .number) 0 (length (c .ring))
-  pub ring : Each (λ e. List·Memᴰ e (take (length (c .ring)) (after .ring))) (c .ring)
+  pub ring : Each (λ t. List·Memᴰ t (stepsTold (length (c .ring)) after)) (c .ring)
 
 -- the cases as calls; the moved pair says no more than its two sheets
 abbrev pub AnsweredSo : Case → Type 0

@@ -1,5 +1,5 @@
 -- Demand 3, the largest-move law (document 01, "What a station lends"), of two layout calls.
--- Each is lent its gaps as three lists or as records: "the pair may be one of each", or two of one form.
+-- Each is lent its gaps as lists or as records: "the pair may be one of each", or two of one form.
 -- It holds of any two calls that keep their promises (`demand-3` in proofs/Demand3).
 use Prim.Native.Nat.{ℕ, _<_}
 use mathlib.Core.Path.{_≡_}
@@ -18,7 +18,7 @@ use Rattle.sheet_checks.specs.declared.Checked.the-variants.{Pass}
 use Rattle.sheet_checks.specs.Refusals.{table}
 
 -- "Two sheets have the same weights and gaps if they have as many labels and as many gaps and agree,
--- number by number, in weight, left, right and distance"
+-- number by number, in weight, left, right and distance"; "only if their gaps agree in kind too" (document 02, Item 6)
 pub record SameSheets (r r′ : Read) : Type 0 where
   pub labels : labelCount r′ ≡ labelCount r
   pub gaps : gapCount r′ ≡ gapCount r

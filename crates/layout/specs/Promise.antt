@@ -1,10 +1,10 @@
 -- What a layout call owes: its number, its place and every lent entry afterwards (document 01,
--- "What a station lends", "Refusal table", "What is owed by each public entry").
+-- "What a station lends", "Refusal table", "What is owed by each public entry"; document 02, Item 6).
 use Prim.Native.Nat.{ℕ, suc, _*_, _≤_, _<_}
 use mathlib.Core.Path.{_≡_}
 use mathlib.Core.Logic.{_⊎_}
 use mathlib.Core.Bool.{Bool}
-use mathlib.Core.List.{List, [], _∷_, map}
+use mathlib.Core.List.{List, [], _∷_}
 use lib.Dec.{eqb}
 use lib.ListN.{length, getD, take}
 use lib.IntN.{natAbs}
@@ -17,13 +17,13 @@ use Rattle.ground.specs.declared.GapNumber.{GapNumber}
 use Rattle.least_move.specs.Sheet.{Sheet}
 use Rattle.least_move.specs.Placement.{Placement, Feasible, LeastMove}
 use Rattle.least_move.specs.Multipliers.{Conditions}
-use Rattle.least_move.specs.Marks.{Marks, forwards}
-use Rattle.least_move.specs.Ring.{Ring}
+use Rattle.least_move.specs.Marks.{Marks, Step}
+use Rattle.least_move.specs.Ring.{Ring, stepsOf}
 use Rattle.sheet_checks.specs.declared.Checked.{Checked}
 use Rattle.sheet_checks.specs.declared.Checked.the-variants as checked
 use Rattle.sheet_checks.specs.Lent.{Read, Written, sheetOf, placeOf, multiplierOf}
 use Rattle.sheet_checks.specs.Refusals.{numberOf, refusedPlace, table}
-use Rattle.ground.specs.Entries.{Filled}
+use Rattle.ground.specs.Entries.{nat, Filled}
 use Rattle.ground.specs.Answers.{ringLengthOf, refusal}
 
 -- the carried byte of a gap: "1 for marked gaps, else 0"
@@ -34,13 +34,14 @@ abbrev pub markOf : Written → GapNumber → Bool
 markOf w e = eqb (byteAt w e) 1
 
 -- "Accepted: the first entries, one per label or gap, hold fractions in lowest terms .. Entries beyond stay.
--- The ring buffer stays. The carried record holds 1 for marked gaps, else 0"
+-- The ring buffer stays. The carried record holds 1 for marked gaps, else 0". The second ring buffer is "kept as the first is"
 pub record Accepted (s : Sheet) (w after : Written) : Type 0 where
   pub place-nums : Filled (s .labels) (w .place-num) (after .place-num)
   pub place-dens : Filled (s .labels) (w .place-den) (after .place-den)
   pub mult-nums : Filled (s .gaps) (w .mult-num) (after .mult-num)
   pub mult-dens : Filled (s .gaps) (w .mult-den) (after .mult-den)
   pub ring : after .ring ≡ w .ring
+  pub back : after .back ≡ w .back
   pub carried : Filled (s .gaps) (w .carried) (after .carried)
   pub least : LeastMove s (placeOf after)
   pub conditions : Conditions s (placeOf after) (multiplierOf after)
@@ -52,16 +53,31 @@ pub record Accepted (s : Sheet) (w after : Written) : Type 0 where
   pub den-most : (i : Label) → i .0 < s .labels → natAbs (placeOf after i .den) ≤ placeDenMost
   pub near : (i : Label) → i .0 < s .labels → natAbs (placeOf after i .num) ≤ placeMost * natAbs (placeOf after i .den)
 
--- "9 fills the front of the ring buffer with gap numbers such that .. The rest of it stays";
--- everything else stays too. Every gap of document 01 asks for at least its distance, and so is passed forwards.
+-- the steps that the fronts of the two ring buffers tell
+abbrev pub stepsTold : ℕ → Written → List Step
+stepsTold size w = stepsOf (take size (w .ring)) (take size (w .back))
+
+-- "9 fills the front of the ring buffer with gap numbers such that .. The rest of it stays"; the second ring buffer "holds 0
+-- for forwards and 1 for backwards beside each gap number". Everything else stays too.
 pub record RingGiven (s : Sheet) (w after : Written) (size : ℕ) : Type 0 where
-  pub first : ℕ
-  pub others : List ℕ
-  pub front : take size (after .ring) ≡ first ∷ others
+  pub first : Step
+  pub others : List Step
+  pub front : stepsTold size after ≡ first ∷ others
   pub counted : size ≡ suc (length others)
-  pub ring : Ring s (forwards first) (map forwards others)
+  pub ring : Ring s first others
+  pub back-bytes : (k : ℕ) → k < size → nat (after .back) k ≤ 1
   pub rest : Filled size (w .ring) (after .ring)
-  pub stays : after ≡ record { place-num = w .place-num; place-den = w .place-den; mult-num = w .mult-num; mult-den = w .mult-den; ring = after .ring; carried = w .carried }
+  pub back-rest : Filled size (w .back) (after .back)
+  pub stays :
+      after ≡ record {
+        place-num = w .place-num;
+        place-den = w .place-den;
+        mult-num = w .mult-num;
+        mult-den = w .mult-den;
+        ring = after .ring;
+        back = after .back;
+        carried = w .carried;
+      }
 
 -- a sheet that the table lets pass is placed, or refused with 9 and place 0 because no placement meets all gaps
 abbrev pub Judged : Sheet → Written → Answer → Written → Type 0

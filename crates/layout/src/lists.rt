@@ -1,10 +1,8 @@
-// Lays out a sheet whose gaps are lent as three lists.
+// Lays out a sheet whose gaps are lent as lists.
 use core_project::Projected;
 use core_project::project::project;
 use ground::Answer;
 use ground::Refusal;
-use ground::limits::GAPS;
-use ground::limits::LABELS;
 use sheet_checks::Checked;
 use sheet_checks::check::Room;
 use sheet_checks::check::check;
@@ -29,67 +27,68 @@ fn answered(found: Projected) -> Answer
     }
 }
 
-// Lays out a sheet that passed the checks: every gap asks for at least its distance.
+// Lays out a sheet that passed the checks.
 fn place(
     wanted: &[i64],
     weight: &[i64],
     left: &[usize],
     right: &[usize],
     distance: &[i64],
+    kind: &[u8],
     carried: &mut [u8],
     place_num: &mut [i64],
     place_den: &mut [i64],
     mult_num: &mut [i64],
     mult_den: &mut [i64],
     ring: &mut [usize],
+    back: &mut [u8],
 ) -> Answer
-    requires { let sheet = sheetNow wanted weight left right distance in
-        let room = roomNow carried «place_num» «place_den» «mult_num» «mult_den» ring in
+    requires { let sheet = sheetNow wanted weight left right distance kind in
+        let room = roomNow carried «place_num» «place_den» «mult_num» «mult_den» ring back in
         ⌜ table sheet room ≡ Pass ⌝ }
     ensures { λ r.
-        let sheet = sheetLent wanted weight left right distance in
-        let room = roomLent carried «place_num» «place_den» «mult_num» «mult_den» ring in
+        let sheet = sheetLent wanted weight left right distance kind in
+        let room = roomLent carried «place_num» «place_den» «mult_num» «mult_den» ring back in
         ⌜ Judged (sheetOf sheet) (room .entry) r (room .exit) ⌝ }
 {
-    let kinds = [0u8; GAPS];
-    let mut back = [0u8; LABELS];
-    let gaps = left.len();
     let found = project(
         wanted,
         weight,
         left,
         right,
         distance,
-        &kinds[..gaps],
+        kind,
         carried,
         place_num,
         place_den,
         mult_num,
         mult_den,
         ring,
-        &mut back,
+        back,
     );
     answered(found)
 }
 
 // Lays out a sheet. Anything may be lent; a sheet that breaks a rule is refused,
-// and then nothing is written but a ring's gap numbers.
+// and then nothing is written but a ring, its gap numbers and which of them are passed backwards.
 pub fn lay_out(
     wanted: &[i64],
     weight: &[i64],
     left: &[usize],
     right: &[usize],
     distance: &[i64],
+    kind: &[u8],
     carried: &mut [u8],
     place_num: &mut [i64],
     place_den: &mut [i64],
     mult_num: &mut [i64],
     mult_den: &mut [i64],
     ring: &mut [usize],
+    back: &mut [u8],
 ) -> Answer
     ensures { λ r.
-        let sheet = sheetLent wanted weight left right distance in
-        let room = roomLent carried «place_num» «place_den» «mult_num» «mult_den» ring in
+        let sheet = sheetLent wanted weight left right distance kind in
+        let room = roomLent carried «place_num» «place_den» «mult_num» «mult_den» ring back in
         ⌜ Promise sheet (room .entry) r (room .exit) ⌝ }
 {
     let room = Room {
@@ -98,9 +97,10 @@ pub fn lay_out(
         multipliers: mult_num.len(),
         multiplier_dens: mult_den.len(),
         ring: ring.len(),
+        back: back.len(),
         carried: carried.len(),
     };
-    let checked = check(wanted, weight, left, right, distance, room);
+    let checked = check(wanted, weight, left, right, distance, kind, room);
     match checked {
         Checked::Refused(refusal) => Answer::Refused(refusal),
         Checked::Pass => place(
@@ -109,12 +109,14 @@ pub fn lay_out(
             left,
             right,
             distance,
+            kind,
             carried,
             place_num,
             place_den,
             mult_num,
             mult_den,
             ring,
+            back,
         ),
     }
 }

@@ -1,4 +1,4 @@
-// The filled part of the ring buffer.
+// The filled parts of the two ring buffers.
 ghost use mathlib.Core.Path.{_≡_};
 ghost use Rattle.layout.specs.Part.{filledPart};
 ghost use Rattle.ground.specs.Views.{before};
@@ -12,5 +12,16 @@ pub fn ring_part<'a>(ring: &'a [usize], size: usize) -> &'a [usize]
         &ring[..size]
     } else {
         &ring[..0]
+    }
+}
+
+// The same of the second ring buffer, which holds 1 beside a gap that is passed backwards and 0 beside any other.
+pub fn back_part<'a>(back: &'a [u8], size: usize) -> &'a [u8]
+    ensures { λ r. ⌜ now r ≡ filledPart (before back) size ⌝ }
+{
+    if size <= back.len() {
+        &back[..size]
+    } else {
+        &back[..0]
     }
 }

@@ -1,15 +1,14 @@
 -- The cases of the bench are right: one test computed over the whole list, and one theorem,
 -- that what passes the test is right.
 use Prim.Native.Nat.{ℕ, zero, suc, _%_, _∣_, _<_}
-use mathlib.Core.Path.{_≡_, refl, sym, _∙_, ap, subst, subst⁻¹}
+use mathlib.Core.Path.{_≡_, refl, sym, ap, subst, subst⁻¹}
 use mathlib.Core.Logic.{_≢_, _⊎_, inl, inr, ⊎-elim}
-use mathlib.Core.Bool.{Bool, true, false, cond, not, _&&_, _||_}
-use mathlib.Core.List.{List, [], _∷_, map, List·Memᴰ, List·Memᴰ·head, List·Memᴰ·tail, List·Memᴰ·not-nil, List·Memᴰ·cases-cons}
+use mathlib.Core.Bool.{Bool, true, false, not, _&&_, _||_, true≢false}
+use mathlib.Core.List.{List, [], _∷_, List·Memᴰ, List·Memᴰ·head, List·Memᴰ·tail, List·Memᴰ·not-nil, List·Memᴰ·cases-cons}
 use native.Mathlib.Omega.{arith}
 use native.Mathlib.Nat.{mod-eq-zero-of-dvd, le-of-dvd}
-use borrow.Author.Tests.{eqb-true, eq-eqb}
 use lib.Dec.{T, T-not, eqb, ltb, eqb→eq, eqb-refl, ltb→lt}
-use lib.ListN.{length}
+use lib.ListN.{length, getD}
 use lib.IntN.{ℤ, pos, natAbs}
 use lib.Signed.{_≤ℤ_, _<ℤ_, leZ, ltZ}
 use Rattle.exact.specs.declared.Fraction.{Fraction}
@@ -21,15 +20,17 @@ use Rattle.algebra.proofs.Ring.{and-parts}
 use Rattle.algebra.proofs.Sum.{last-or-below}
 use Rattle.ground.specs.declared.Label.{Label}
 use Rattle.ground.specs.declared.GapNumber.{GapNumber}
-use Rattle.least_move.specs.Sheet.{Sheet, Gap, Kind, at-least, exactly, ignored, Proper, label, gapNumber}
+use Rattle.least_move.specs.Sheet.{Sheet, Kind, at-least, exactly, ignored, Proper, label, gapNumber}
 use Rattle.least_move.specs.Placement.{Placement, slackOf, HoldsWith, Feasible, Tight}
 use Rattle.least_move.specs.Multipliers.{Multipliers, Lawful, Conditions}
-use Rattle.least_move.specs.Marks.{Step, forwards, start, finish, Leads}
-use Rattle.least_move.specs.Ring.{Ring, Passable, OnceLeft}
-use Rattle.least_move.specs.Bench.{WrittenGap, Written, Source, given, worked-out, Placed, Refused, Moved, Case, placed, refused, moved, bench, gapOf, written, sheetOf, placement, multipliers, passes, RingOf, OnlyMultipliers, RightPlaced, RightRefused, RightMoved, RightCase}
+use Rattle.least_move.specs.Marks.{Step, start, finish, Leads}
+use Rattle.least_move.specs.Ring.{Ring, Passable, OnceLeft, distanceSum, IsRing}
+use Rattle.least_move.specs.Bench.{WrittenGap, _to_of_, Source, given, worked-out, Placed, Refused, Moved, Case, placed, refused, moved}
+use Rattle.least_move.specs.Bench.{bench, gapOf, written, sheetOf, placement, multipliers, OnlyMultipliers, RightPlaced, RightRefused, RightMoved, RightCase}
 use Rattle.least_move.proofs.Laws.{least-of-conditions, ring-excludes}
 use Rattle.least_move.proofs.Decided.{Alone, Decided, decided-same}
 use Rattle.ground.specs.Entries.{Each}
+use Rattle.ground.proofs.Each.{each-map}
 
 -- ---- tests that come with their proofs
 
@@ -224,108 +225,121 @@ alone? s p e i =
 abbrev decided? : (s : Sheet) (p : Placement) (e : ℕ) → Test (Decided s p e)
 decided? s p e = loose? s p e or (equal-label _ _ or (alone? s p e _ or alone? s p e _))
 
--- every ring of a sheet passes as many gaps as the list has, and all of the list
-abbrev RingsOf : Sheet → List ℕ → Type 0
-RingsOf s l = (first : Step) (others : List Step) → Ring s first others → (suc (length others) ≡ length l) × Each (λ e. List·Memᴰ e (passes first others)) l
+-- ---- every ring of a sheet, tried from each step on
 
--- a step of a ring starts at a label of the sheet
-start-in : (s : Sheet) → Proper s → (t : Step) → t .by .0 < s .gaps → start s t .0 < s .labels
-start-in s proper t h = go (t .backwards)
+abbrev equal-bool : (a b : Bool) → Test (a ≡ b)
+equal-bool true true = granted refl
+equal-bool true false = denied
+equal-bool false true = denied
+equal-bool false false = granted refl
+
+abbrev equal-step : (t u : Step) → Test (t ≡ u)
+equal-step t u =
+    granted (λ (x : t .by .0 ≡ u .by .0) (y : t .backwards ≡ u .backwards) i. record { by = gapNumber (x i); backwards = y i })
+    on equal _ _
+    on equal-bool _ _
+
+abbrev member? : (t : Step) (l : List Step) → Test (List·Memᴰ t l)
+member? t [] = denied
+member? t (u ∷ l) = granted (⊎-elim List·Memᴰ·head List·Memᴰ·tail) on (equal-step t u or member? t l)
+
+-- at every step along a gap, either way
+either-way : (P : Step → Type 0) (t : Step) → P (record { by = t .by; backwards = true }) → P (record { by = t .by; backwards = false }) → P t
+either-way P t back forth = go (t .backwards)
   where
-    go : (b : Bool) → cond b (s .gap (t .by) .right) (s .gap (t .by) .left) .0 < s .labels
-    go true = proper .right-in (t .by) h
-    go false = proper .left-in (t .by) h
+    go : (b : Bool) → P (record { by = t .by; backwards = b })
+    go true = back
+    go false = forth
 
-apart-starts : {a b : Label} → a ≢ b → a .0 ≢ b .0
-apart-starts n e = n (ap label e)
+abbrev steps : {n : ℕ} {P : Step → Type 0} → ((t : Step) → Test (P t)) → Test ((t : Step) → t .by .0 < n → P t)
+steps {n} {P} test =
+    granted (λ h t below. either-way P t (h (t .by) below .0) (h (t .by) below .1))
+    on gaps (λ e. pair? (test (record { by = e; backwards = true })) (test (record { by = e; backwards = false })))
 
--- steps that pass one gap forwards start at one label
-same-start : (s : Sheet) (t u : Step) → t .backwards ≡ false → u .backwards ≡ false → t .by .0 ≡ u .by .0 → start s t ≡ start s u
-same-start s t u a b same =
-    ap (λ (d : Bool). cond d (s .gap (t .by) .right) (s .gap (t .by) .left)) a
-    ∙ ap (λ (e : ℕ). s .gap (gapNumber e) .left) same
-    ∙ sym (ap (λ (d : Bool). cond d (s .gap (u .by) .right) (s .gap (u .by) .left)) b)
+-- the second where the first is so, tried only where it may be
+abbrev tried : Bool → (Unit {0} → Bool) → Bool
+tried true b = true
+tried false b = b tt
 
--- all gaps ask for at least their distance, so each is passed forwards
-abbrev Plain : Sheet → Type 0
-Plain s = (e : GapNumber) → s .gap e .kind ≡ at-least
+tried-shows : {P Q : Type 0} (a : Bool) → (T a → ¬ P) → (b : Unit {0} → Test Q) → T (tried a (λ x. b x .passes)) → P → Q
+tried-shows true stops b h p = absurd (stops tt p)
+tried-shows false stops b h p = b tt .shows h
 
-forwards-so : (s : Sheet) → Plain s → (t : Step) → Passable (s .gap (t .by) .kind) (t .backwards) → t .backwards ≡ false
-forwards-so s plain t h = subst (λ (k : Kind). Passable k (t .backwards)) (plain (t .by)) h
+abbrev if-so : {P Q : Type 0} → Test (¬ P) → (Unit {0} → Test Q) → Test (P → Q)
+if-so a b = record { passes = tried (a .passes) (λ x. b x .passes); shows = tried-shows (a .passes) (a .shows) b }
 
--- one label and one gap: a second would start where the first did
-one-gap : (s : Sheet) → Proper s → s .labels ≡ 1 → s .gaps ≡ 1 → RingsOf s (0 ∷ [])
-one-gap s proper one gap first [] r =
-    let at : first .by .0 ≡ 0 = omega (arith, r .passable .0 .0) in
-    (refl, (List·Memᴰ·head (sym at), tt))
-one-gap s proper one gap first (t ∷ others) r =
-    absurd (omega (arith, start-in s proper first (r .passable .0 .0), start-in s proper t (r .passable .1 .0 .0), apart-starts (r .once .0 .0)))
+-- a gap that may not be passed this way, and a label among those seen
+abbrev barred? : (k : Kind) (b : Bool) → Test (¬ (Passable k b))
+barred? at-least true = granted true≢false
+barred? at-least false = denied
+barred? exactly b = denied
+barred? ignored b = granted (λ h. h)
 
--- two labels and two gaps, neither of a label to itself: one alone does not close, a third would start where one did,
--- and the same gap twice would start twice from one label
-module _ (s : Sheet) (proper : Proper s) (plain : Plain s) (two : s .labels ≡ 2) (gaps-two : s .gaps ≡ 2)
-    (no-self : (e : GapNumber) → e .0 < s .gaps → s .gap e .left ≢ s .gap e .right) where
-  not-alone : (first : Step) → Ring s first [] → ⊥
-  not-alone first r = go (first .backwards) (r .closed)
-    where
-      g : Gap
-      g = s .gap (first .by)
+abbrev seen? : (a : Label) (seen : List Label) → Test (¬ (Each (λ l. a ≢ l) seen))
+seen? a [] = denied
+seen? a (l ∷ seen) = granted (λ h each. ⊎-elim (λ e. each .0 e) (λ n. n (each .1)) h) on (equal-label a l or seen? a seen)
 
-      go : (b : Bool) → cond b (g .left) (g .right) ≡ cond b (g .right) (g .left) → ⊥
-      go true e = no-self (first .by) (r .passable .0 .0) e
-      go false e = no-self (first .by) (r .passable .0 .0) (sym e)
+-- steps behind those taken, the last of which stands first
+abbrev onto : List Step → List Step → List Step
+onto [] ts = ts
+onto (t ∷ taken) ts = onto taken (t ∷ ts)
 
-  both : (first t : Step) → Ring s first (t ∷ []) → (e : ℕ) → e < 2 → List·Memᴰ e (passes first (t ∷ []))
-  both first t r e h =
-      ⊎-elim (λ q. List·Memᴰ·head q) (λ q. List·Memᴰ·tail (List·Memᴰ·head q)) (one-of (eqb e (first .by .0)) refl)
-    where
-      differ : first .by .0 ≢ t .by .0
-      differ same =
-          r .once .0 .0 (sym (same-start s first t (forwards-so s plain first (r .passable .0 .1)) (forwards-so s plain t (r .passable .1 .0 .1)) same))
+-- as many steps as the list has, and these
+abbrev Such : List Step → List Step → Type 0
+Such l ts = (length ts ≡ length l) × Each (λ t. List·Memᴰ t ts) l
 
-      one-of : (b : Bool) → eqb e (first .by .0) ≡ b → (e ≡ first .by .0) ⊎ (e ≡ t .by .0)
-      one-of true q = inl (eqb-true e (first .by .0) q)
-      one-of false q =
-          let other : e ≢ first .by .0 = λ same. no-true (sym q ∙ eq-eqb e (first .by .0) same) in
-          inr (omega (arith, differ, other, r .passable .0 .0, r .passable .1 .0 .0))
-        where
-          no-true : false ≡ true → ⊥
-          no-true z = let n : _≡_ {A = ℕ} 0 1 = cc in omega arith
+-- what is left of a ring from home: it stands at a label, and labels that it has started from are seen
+record Rest (s : Sheet) (home at : Label) (seen : List Label) (taken rest : List Step) : Type 0 where
+  leads : Leads s at rest home
+  passable : Each (λ t. (t .by .0 < s .gaps) × Passable (s .gap (t .by) .kind) (t .backwards)) rest
+  once : OnceLeft s rest
+  unseen : Each (λ l. Each (λ t. start s t ≢ l) rest) seen
+  above : pos 0 <ℤ distanceSum s (onto taken rest)
 
-  two-gaps : RingsOf s (0 ∷ 1 ∷ [])
-  two-gaps first [] r = absurd (not-alone first r)
-  two-gaps first (t ∷ []) r = (refl, (both first t r 0 (omega arith), (both first t r 1 (omega arith), tt)))
-  two-gaps first (t ∷ u ∷ others) r =
-      absurd
-      (omega (
-        arith,
-        start-in s proper first (r .passable .0 .0),
-        start-in s proper t (r .passable .1 .0 .0),
-        start-in s proper u (r .passable .1 .1 .0 .0),
-        apart-starts (r .once .0 .0),
-        apart-starts (r .once .0 .1 .0),
-        apart-starts (r .once .1 .0 .0),
-      ))
+abbrev Walk : (s : Sheet) (l : List Step) (home at : Label) (seen : List Label) (taken : List Step) → Type 0
+Walk s l home at seen taken = (rest : List Step) → Rest s home at seen taken rest → Such l (onto taken rest)
 
--- a ring that has the one gap, or both gaps, of a sheet
-abbrev rings? : (w : Written) (l : List ℕ) → Test (Proper (written w) → RingsOf (written w) l)
-rings? w [] = denied
-rings? w (a ∷ []) =
-    granted (λ (one : written w .labels ≡ 1) (gap : written w .gaps ≡ 1) (first : 0 ≡ a) proper.
-    subst (λ (e : ℕ). RingsOf (written w) (e ∷ [])) first (one-gap (written w) proper one gap))
-    on equal _ _
-    on equal _ _
-    on equal _ _
-rings? w (a ∷ b ∷ []) =
-    granted (λ (labels-two : written w .labels ≡ 2) (gaps-two : written w .gaps ≡ 2) (first : 0 ≡ a) (second : 1 ≡ b) no-self proper.
-    subst (λ (e : ℕ). RingsOf (written w) (e ∷ b ∷ [])) first
-    (subst (λ (e : ℕ). RingsOf (written w) (0 ∷ e ∷ [])) second (two-gaps (written w) proper (λ e. refl) labels-two gaps-two no-self)))
-    on equal _ _
-    on equal _ _
-    on equal _ _
-    on equal _ _
-    on gaps (λ e. unequal-label _ _)
-rings? w (a ∷ b ∷ c ∷ l) = denied
+-- the next step of such a ring
+abbrev Next : (s : Sheet) (at : Label) (seen : List Label) → Step → Type 0
+Next s at seen t = Passable (s .gap (t .by) .kind) (t .backwards) × (start s t ≡ at) × Each (λ l. start s t ≢ l) seen
+
+walked : (s : Sheet) (l : List Step) (home at : Label) (seen : List Label) (taken : List Step)
+    → ((at ≡ home) → (pos 0 <ℤ distanceSum s (onto taken [])) → Such l (onto taken []))
+    → ((t : Step) → t .by .0 < s .gaps → Next s at seen t → Walk s l home (finish s t) (start s t ∷ seen) (t ∷ taken))
+    → Walk s l home at seen taken
+walked s l home at seen taken here next [] r = here (r .leads) (r .above)
+walked s l home at seen taken here next (t ∷ rest) r =
+    next t (r .passable .0 .0) (r .passable .0 .1, r .leads .0, each-map (λ a h. h .0) seen (r .unseen)) rest
+    (record { leads = r .leads .1; passable = r .passable .1; once = r .once .1; unseen = (r .once .0, each-map (λ a h. h .1) seen (r .unseen)); above = r .above })
+
+begun : (s : Sheet) (l : List Step)
+    → ((t : Step) → t .by .0 < s .gaps → Passable (s .gap (t .by) .kind) (t .backwards) → Walk s l (start s t) (finish s t) (start s t ∷ []) (t ∷ []))
+    → (ts : List Step) → IsRing s ts → Such l ts
+begun s l first [] r = absurd r
+begun s l first (t ∷ ts) r =
+    first t (r .passable .0 .0) (r .passable .0 .1) ts
+    (record { leads = r .closed; passable = r .passable .1; once = r .once .1; unseen = (r .once .0, tt); above = r .above })
+
+abbrev next? : (s : Sheet) (at : Label) (seen : List Label) (t : Step) → Test (¬ (Next s at seen t))
+next? s at seen t =
+    granted (λ h n. ⊎-elim (λ x. x (n .0)) (⊎-elim (λ x. x (n .1)) (λ x. x (n .2))) h)
+    on (barred? (s .gap (t .by) .kind) (t .backwards) or unequal-label (start s t) at or seen? (start s t) seen)
+
+abbrev such? : (l ts : List Step) → Test (Such l ts)
+such? l ts = granted (λ x y. (x, y)) on equal _ _ on steps? (λ t. member? t ts) l
+
+-- a ring has at most as many steps as the sheet has labels
+abbrev walk? : (n : ℕ) (s : Sheet) (l : List Step) (home at : Label) (seen : List Label) (taken : List Step) → Test (Walk s l home at seen taken)
+walk? zero s l home at seen taken = denied
+walk? (suc n) s l home at seen taken =
+    granted (walked s l home at seen taken)
+    on provided (unequal-label at home) (provided (granted (λ h k. not-le-of-lt k h) on at-mostℤ _ _) (such? l (onto taken [])))
+    on steps (λ t. if-so (next? s at seen t) (λ _. walk? n s l home (finish s t) (start s t ∷ seen) (t ∷ taken)))
+
+abbrev rings? : (s : Sheet) (l : List Step) → Test ((ts : List Step) → IsRing s ts → Such l ts)
+rings? s l =
+    granted (begun s l)
+    on steps (λ t. if-so (barred? (s .gap (t .by) .kind) (t .backwards)) (λ _. walk? (s .labels) s l (start s t) (finish s t) (start s t ∷ []) (t ∷ [])))
 
 -- ---- of the cases
 
@@ -336,20 +350,25 @@ only? c given =
     on below (length (c .sheet .gaps)) (λ e. decided? (sheetOf c) (placement c) e)
 only? c worked-out = granted (λ _ _. tt)
 
-abbrev ring-of? : (s : Sheet) (l : List ℕ) → Test (RingOf s l)
-ring-of? s [] = denied
-ring-of? s (e ∷ l) = ring? s (forwards e) (map forwards l)
+abbrev is-ring? : (s : Sheet) (l : List Step) → Test (IsRing s l)
+is-ring? s [] = denied
+is-ring? s (t ∷ l) = ring? s t l
+
+abbrev gapAt : Placed → GapNumber → WrittenGap
+gapAt c e = getD (c .sheet .gaps) (e .0) (0 to 0 of pos 0)
 
 abbrev gap? : (a b : WrittenGap) → Test (gapOf a ≡ gapOf b)
 gap? a b =
-    granted (λ (x : a .left ≡ b .left) (y : a .right ≡ b .right) (z : a .distance ≡ b .distance) i. gapOf (record { left = x i; right = y i; distance = z i }))
+    granted (λ (x : a .left ≡ b .left) (y : a .right ≡ b .right) (z : a .distance ≡ b .distance) (k : a .kind ≡ b .kind) i.
+    gapOf (record { left = x i; right = y i; distance = z i; kind = k i }))
     on equal _ _
     on equal _ _
     on equalℤ _ _
+    on equal _ _
 
-no-placement : (s : Sheet) (l : List ℕ) → Proper s → RingOf s l → (p : Placement) → ¬ (Feasible s p)
+no-placement : (s : Sheet) (l : List Step) → Proper s → IsRing s l → (p : Placement) → ¬ (Feasible s p)
 no-placement s [] h r = absurd r
-no-placement s (e ∷ l) h r = ring-excludes s h (forwards e) (map forwards l) r
+no-placement s (t ∷ l) h r = ring-excludes s h t l r
 
 abbrev placed? : (c : Placed) → Test (RightPlaced c)
 placed? c =
@@ -380,14 +399,14 @@ refused? c =
       number = b;
       ring = r;
       none = no-placement (written (c .sheet)) (c .ring) proper r;
-      only = o proper;
+      only = o;
     })
     on proper? (written (c .sheet))
     on equal _ _
     on equal _ _
     on equal _ _
-    on ring-of? (written (c .sheet)) (c .ring)
-    on rings? (c .sheet) (c .ring)
+    on is-ring? (written (c .sheet)) (c .ring)
+    on rings? (written (c .sheet)) (c .ring)
 
 abbrev moved? : (c : Moved) → Test (RightMoved c)
 moved? c =
@@ -397,7 +416,7 @@ moved? c =
     on equal _ _
     on equal _ _
     on labels (λ i. equalℤ _ _)
-    on gaps (λ e. gap? _ _)
+    on gaps (λ e. gap? (gapAt (c .after) e) (gapAt (c .before) e))
     on less _ _
     on labels (λ i. equalℤ _ _)
     on labels (λ i. equalℤ _ _)

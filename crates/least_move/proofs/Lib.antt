@@ -6,6 +6,7 @@ pub mod Laws
 pub mod Forest
 pub mod Decided
 pub mod Places
+pub mod Opposite
 pub mod WholeUnits
 pub mod WrongUnits
 pub mod Bench

@@ -1,6 +1,6 @@
 -- The slack of a gap of a placement: that it holds or is tight is what document 01 asks, and where the slack is 0/1.
-use mathlib.Core.Path.{_≡_, sym, subst}
-use mathlib.Core.Logic.{⊎-elim}
+use mathlib.Core.Path.{_≡_, refl, sym, subst}
+use mathlib.Core.Logic.{_≢_, ⊎-elim}
 use mathlib.Core.Bool.{Bool, true}
 use Prim.Native.Nat.{_<_}
 use lib.IntN.{ℤ, pos}
@@ -61,6 +61,10 @@ not-other z n =
     (λ above. absurd (n (λ e. not-le-of-lt above (le-of-eq e))))
     (le-or-lt z (pos 0))
 
+-- an exact gap "is always tight" (document 02, Item 6)
+pub exact-tight : {s : Sheet} {p : Placement} → Feasible s p → (e : GapNumber) → e .0 < s .gaps → s .gap e .kind ≡ exactly → Tight p (s .gap e)
+exact-tight {s} {p} f e h is = subst (λ (k : Kind). HoldsWith k (slackOf p (s .gap e))) is (f .meets e h)
+
 module _ {s : Sheet} (proper : Proper s) {p : Placement} (feasible : Feasible s p) where
   -- a tight gap of the sheet
   tight-in : (e : GapNumber) → e .0 < s .gaps → Tight p (s .gap e) → slackOf p (s .gap e) ≡ whole (pos 0)
@@ -68,6 +72,10 @@ module _ {s : Sheet} (proper : Proper s) {p : Placement} (feasible : Feasible s 
       tight-slack p (s .gap e)
       (feasible .fractions (s .gap e .left) (proper .left-in e h))
       (feasible .fractions (s .gap e .right) (proper .right-in e h))
+
+  -- an exact one
+  pub exact-slack : (e : GapNumber) → e .0 < s .gaps → s .gap e .kind ≡ exactly → slackOf p (s .gap e) ≡ whole (pos 0)
+  exact-slack e h is = tight-in e h (exact-tight feasible e h is)
 
   -- a marked one
   pub marked-slack : {m : Multipliers} {marked : GapNumber → Bool} → Marks s p m marked → (e : GapNumber) → e .0 < s .gaps → marked e ≡ true → slackOf p (s .gap e) ≡ whole (pos 0)
@@ -78,6 +86,11 @@ pub loaded-slack : {s : Sheet} → Proper s → {p : Placement} {m : Multipliers
 loaded-slack {s} proper {p} c e h loaded =
     tight-in proper (c .feasible) e h (not-other (slackOf p (s .gap e) .num) (λ loose. loaded (c .loose e h loose)))
 
--- the slack of a gap that asks for at least its distance is not below zero
-pub held-slack : {s : Sheet} {p : Placement} → Feasible s p → (e : GapNumber) → e .0 < s .gaps → s .gap e .kind ≡ at-least → pos 0 ≤ℤ slackOf p (s .gap e) .num
-held-slack {s} {p} f e h is = subst (λ (k : Kind). HoldsWith k (slackOf p (s .gap e))) is (f .meets e h)
+-- the slack of a gap of either kind is not below zero where the gap holds
+held-above : (k : Kind) (q : Fraction) → k ≢ ignored → HoldsWith k q → pos 0 ≤ℤ q .num
+held-above at-least q asks holds = holds
+held-above exactly q asks holds = subst (λ (z : ℤ). pos 0 ≤ℤ z) (sym holds) (le-of-eq refl)
+held-above ignored q asks holds = absurd (asks refl)
+
+pub held-slack : {s : Sheet} {p : Placement} → Feasible s p → (e : GapNumber) → e .0 < s .gaps → s .gap e .kind ≢ ignored → pos 0 ≤ℤ slackOf p (s .gap e) .num
+held-slack {s} {p} f e h asks = held-above (s .gap e .kind) (slackOf p (s .gap e)) asks (f .meets e h)

@@ -1,9 +1,9 @@
--- The sheets on the bench: document 01's cases P1 to P10 in its order, then document 02's mixed sheet (Item 3) and its
--- labels that cross (Item 4), in one list, and what it is for a case to be right.
-use Prim.Native.Nat.{ℕ, suc, _<_}
+-- The sheets on the bench: document 01's cases P1 to P10 in its order, then document 02's mixed sheet (Item 3), its labels
+-- that cross (Item 4) and labels joined rigidly (Item 6), in one list, and what it is for a case to be right.
+use Prim.Native.Nat.{ℕ, _<_}
 use mathlib.Core.Path.{_≡_}
-use mathlib.Core.Bool.{cond}
-use mathlib.Core.List.{List, [], _∷_, _++_, map, List·Memᴰ}
+use mathlib.Core.Bool.{true, cond}
+use mathlib.Core.List.{List, [], _∷_, _++_, List·Memᴰ}
 use lib.ListN.{length, getD, replicate}
 use lib.Dec.{eqb}
 use lib.IntN.{ℤ, pos, negℤ, _-ℤ_}
@@ -12,19 +12,20 @@ use Rattle.exact.specs.Fraction.{_≃_, _⊖_, whole, LowestTerms}
 use Rattle.ground.specs.declared.Label.{Label}
 use Rattle.ground.specs.declared.GapNumber.{GapNumber}
 use Rattle.ground.specs.Entries.{Each}
-use Rattle.least_move.specs.Sheet.{Sheet, Gap, at-least, label}
+use Rattle.ground.specs.Kinds.{atLeastByte, exactlyByte}
+use Rattle.least_move.specs.Sheet.{Sheet, Gap, kindOf, label, gapNumber}
 use Rattle.least_move.specs.Placement.{Placement, Feasible, LeastMove}
 use Rattle.least_move.specs.Multipliers.{Multipliers, Conditions}
 use Rattle.least_move.specs.Marks.{Step, forwards}
-use Rattle.least_move.specs.Ring.{Ring}
+use Rattle.least_move.specs.Ring.{IsRing}
 
 -- ---- the data, as the document writes it
 
--- a number with a minus sign, a fraction, and a gap: "gap 0 to 1 of 10"
+-- a number with a minus sign, a fraction, and a gap: "gap 0 to 1 of 10", and an exact one, from 0 to 1 of exactly 6
 abbrev pub minus : ℕ → ℤ
 minus n = negℤ (pos n)
 
-infix 75 _over_ _to_of_
+infix 75 _over_ _to_of_ _to_exactly_
 abbrev pub _over_ : ℤ → ℕ → Fraction
 n over d = record { num = n; den = pos d }
 
@@ -32,9 +33,17 @@ pub record WrittenGap : Type 0 where
   pub left : ℕ
   pub right : ℕ
   pub distance : ℤ
+  pub kind : ℕ
 
 abbrev pub _to_of_ : ℕ → ℕ → ℤ → WrittenGap
-u to v of g = record { left = u; right = v; distance = g }
+u to v of g = record { left = u; right = v; distance = g; kind = atLeastByte }
+
+abbrev pub _to_exactly_ : ℕ → ℕ → ℤ → WrittenGap
+u to v exactly g = record { left = u; right = v; distance = g; kind = exactlyByte }
+
+-- a gap of this number, passed backwards
+abbrev pub backwards : ℕ → Step
+backwards e = record { by = gapNumber e; backwards = true }
 
 -- a sheet: a want and a weight per label, the gaps, and the carried record that it is laid out with, a byte per gap
 pub record Written : Type 0 where
@@ -43,12 +52,12 @@ pub record Written : Type 0 where
   pub gaps : List WrittenGap
   pub carried : List ℕ
 
--- whether the document gives a case's multipliers
+-- whether a case's multipliers are shown to be the only ones, as where a document gives them, or are just worked out
 pub data Source : Type 0 where
   given : Source
   worked-out : Source
 
--- a sheet with its places and multipliers, and one refused with its number and its ring of gaps
+-- a sheet with its places and multipliers, and one refused with its number and its ring
 pub record Placed : Type 0 where
   pub sheet : Written
   pub places : List Fraction
@@ -58,7 +67,7 @@ pub record Placed : Type 0 where
 pub record Refused : Type 0 where
   pub sheet : Written
   pub number : ℕ
-  pub ring : List ℕ
+  pub ring : List Step
 
 -- two placed sheets: the want of one label moved so far, and every place so far
 pub record Moved : Type 0 where
@@ -154,7 +163,7 @@ P7 =
     record {
       sheet = sheet (pos 0 ∷ pos 0 ∷ []) (pos 1 ∷ pos 1 ∷ []) (0 to 1 of pos 5 ∷ 1 to 0 of minus 4 ∷ []);
       number = 9;
-      ring = 0 ∷ 1 ∷ [];
+      ring = forwards 0 ∷ forwards 1 ∷ [];
     }
 
 -- P8 the same with -5: -5/2, 5/2
@@ -183,7 +192,7 @@ P10 =
     record {
       sheet = sheet (pos 0 ∷ []) (pos 1 ∷ []) (0 to 0 of pos 1 ∷ []);
       number = 9;
-      ring = 0 ∷ [];
+      ring = forwards 0 ∷ [];
     }
 
 -- P4 against P3: "One want moved by 1, both places by 1/2"
@@ -210,6 +219,65 @@ crossing =
       source = worked-out;
     }
 
+-- document 02, Item 6: wants 0 and 10, weights 1, exact gap 0 to 1 of 6: 2, 8. The gap pulls its labels together, and so
+-- its multiplier, -4, is below zero: it "may have either sign"
+abbrev pub joined : Placed
+joined =
+    record {
+      sheet = sheet (pos 0 ∷ pos 10 ∷ []) (pos 1 ∷ pos 1 ∷ []) (0 to 1 exactly pos 6 ∷ []);
+      places = pos 2 over 1 ∷ pos 8 over 1 ∷ [];
+      multipliers = minus 4 over 1 ∷ [];
+      source = given;
+    }
+
+-- Item 6: wants 0, 0, 0, weights 1, exact gaps 0 to 1 of 5, 1 to 2 of 5, 0 to 2 of 10: -5, 0, 5. The third asks what the
+-- first two do already: it is tight, as an exact gap "always" is, and need not carry anything; other multipliers would do too
+abbrev pub redundant : Placed
+redundant =
+    record {
+      sheet =
+          sheet (pos 0 ∷ pos 0 ∷ pos 0 ∷ []) (pos 1 ∷ pos 1 ∷ pos 1 ∷ [])
+          (0 to 1 exactly pos 5 ∷ 1 to 2 exactly pos 5 ∷ 0 to 2 exactly pos 10 ∷ []);
+      places = minus 5 over 1 ∷ pos 0 over 1 ∷ pos 5 over 1 ∷ [];
+      multipliers = pos 10 over 1 ∷ pos 10 over 1 ∷ pos 0 over 1 ∷ [];
+      source = worked-out;
+    }
+
+-- Item 6: wants 0, 0, 9, weights 1, 2, 1, exact gap 0 to 1 of 4, gap 1 to 2 of 3: -8/3, 4/3, 9; multipliers 16/3, 0. Gaps
+-- of both kinds at one label, and the second has slack
+abbrev pub joined-mixed : Placed
+joined-mixed =
+    record {
+      sheet =
+          sheet (pos 0 ∷ pos 0 ∷ pos 9 ∷ []) (pos 1 ∷ pos 2 ∷ pos 1 ∷ [])
+          (0 to 1 exactly pos 4 ∷ 1 to 2 of pos 3 ∷ []);
+      places = minus 8 over 3 ∷ pos 4 over 3 ∷ pos 9 over 1 ∷ [];
+      multipliers = pos 16 over 3 ∷ pos 0 over 1 ∷ [];
+      source = given;
+    }
+
+-- Item 6: wants 0, 0, weights 1, exact gap 0 to 1 of 5, gap 0 to 1 of 6: refusal 9. "A ring may pass an exact gap
+-- backwards, counting its distance negated": 6 - 5 is above zero
+abbrev pub joined-against : Refused
+joined-against =
+    record {
+      sheet = sheet (pos 0 ∷ pos 0 ∷ []) (pos 1 ∷ pos 1 ∷ []) (0 to 1 exactly pos 5 ∷ 0 to 1 of pos 6 ∷ []);
+      number = 9;
+      ring = forwards 1 ∷ backwards 0 ∷ [];
+    }
+
+-- Item 6: wants 0, 0, 0, weights 1, exact gaps 0 to 1 of 5, 1 to 2 of 5, 0 to 2 of 9: refusal 9, for "exact gaps that
+-- contradict". The ring goes one way round: 5 + 5 - 9 is above zero, and the other way it is below
+abbrev pub joined-apart : Refused
+joined-apart =
+    record {
+      sheet =
+          sheet (pos 0 ∷ pos 0 ∷ pos 0 ∷ []) (pos 1 ∷ pos 1 ∷ pos 1 ∷ [])
+          (0 to 1 exactly pos 5 ∷ 1 to 2 exactly pos 5 ∷ 0 to 2 exactly pos 9 ∷ []);
+      number = 9;
+      ring = forwards 0 ∷ forwards 1 ∷ backwards 2 ∷ [];
+    }
+
 unfoldable pub bench : List Case
 bench =
     placed P1
@@ -225,13 +293,19 @@ bench =
     ∷ refused P10
     ∷ placed mixed
     ∷ placed crossing
+    ∷ placed joined
+    ∷ placed redundant
+    ∷ placed joined-mixed
+    ∷ refused joined-against
+    ∷ refused joined-apart
     ∷ []
 
 -- ---- what it is for a case to be right
 
 -- the sheet, the placement and the multipliers that are so written
 abbrev pub gapOf : WrittenGap → Gap
-gapOf g = record { left = label (g .left); right = label (g .right); distance = g .distance; kind = at-least }
+gapOf g =
+    record { left = label (g .left); right = label (g .right); distance = g .distance; kind = kindOf (g .kind) }
 
 abbrev pub written : Written → Sheet
 written w =
@@ -259,7 +333,7 @@ Weighted w = length (w .weights) ≡ length (w .wants)
 abbrev pub Carrying : Written → Type 0
 Carrying w = length (w .carried) ≡ length (w .gaps)
 
--- where the document gives multipliers they are the only ones that meet the conditions with these places
+-- given multipliers are the only ones that meet the conditions with these places
 abbrev pub OnlyMultipliers : Placed → Source → Type 0
 OnlyMultipliers c given =
     (m : Multipliers) → Conditions (sheetOf c) (placement c) m →
@@ -278,24 +352,15 @@ pub record RightPlaced (c : Placed) : Type 0 where
   pub lowest : (q : Fraction) → List·Memᴰ q (c .places ++ c .multipliers) → LowestTerms q
   pub only : OnlyMultipliers c (c .source)
 
--- the gaps, each passed from left to right, are a ring
-abbrev pub RingOf : Sheet → List ℕ → Type 0
-RingOf s [] = ⊥
-RingOf s (e ∷ es) = Ring s (forwards e) (map forwards es)
-
--- the gaps that a ring passes
-abbrev pub passes : Step → List Step → List ℕ
-passes first others = map (λ t. t .by .0) (first ∷ others)
-
--- 9 is "no placement meets all gaps", and the ring shows it; every ring of the sheet has as many gaps, and these
+-- 9 is "no placement meets all gaps", and the ring shows it; every ring of the sheet has as many steps, and these
 pub record RightRefused (c : Refused) : Type 0 where
   pub weighted : Weighted (c .sheet)
   pub carrying : Carrying (c .sheet)
   pub number : c .number ≡ 9
-  pub ring : RingOf (written (c .sheet)) (c .ring)
+  pub ring : IsRing (written (c .sheet)) (c .ring)
   pub none : (p : Placement) → ¬ (Feasible (written (c .sheet)) p)
-  pub only : (first : Step) (others : List Step) → Ring (written (c .sheet)) first others →
-      (suc (length others) ≡ length (c .ring)) × Each (λ e. List·Memᴰ e (passes first others)) (c .ring)
+  pub only : (steps : List Step) → IsRing (written (c .sheet)) steps →
+      (length steps ≡ length (c .ring)) × Each (λ t. List·Memᴰ t steps) (c .ring)
 
 -- two sheets with the same weights and gaps: the want of the one label is moved so far and no other is,
 -- and every place is moved so far

@@ -5,5 +5,6 @@ pub mod Multipliers
 pub mod Marks
 pub mod Ring
 pub mod Moved
+pub mod Opposite
 pub mod Bench
 pub mod States

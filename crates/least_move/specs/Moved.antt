@@ -7,7 +7,8 @@ use Rattle.ground.specs.declared.Label.{Label}
 use Rattle.ground.specs.declared.GapNumber.{GapNumber}
 use Rattle.least_move.specs.Sheet.{Sheet}
 
--- "as many labels and as many gaps and agree, number by number, in weight, left, right and distance", and in kind
+-- "as many labels and as many gaps and agree, number by number, in weight, left, right and distance", and "in kind too"
+-- (document 02, Item 6)
 pub record SameButWants (s t : Sheet) : Type 0 where
   pub labels : t .labels ≡ s .labels
   pub gaps : t .gaps ≡ s .gaps

@@ -1,4 +1,4 @@
--- Multipliers and their conditions (document 01, "Least move"; condition (3) of source document 003).
+-- Multipliers and their conditions (document 01, "Least move"; document 02, Item 6; condition (3) of source document 003).
 use Prim.Native.Nat.{_<_}
 use mathlib.Core.Path.{_≡_}
 use mathlib.Core.Bool.{cond}
@@ -16,7 +16,7 @@ use Rattle.least_move.specs.Placement.{Placement, Feasible, Tight, move}
 abbrev pub Multipliers : Type 0
 Multipliers = GapNumber → Fraction
 
--- "never negative"; that of an exact gap may have either sign, and that of an ignored one is zero
+-- "never negative"; "An exact gap's multiplier may have either sign", and that of an ignored one is zero
 abbrev pub Lawful : Kind → Fraction → Type 0
 Lawful at-least q = whole (pos 0) ≼ q
 Lawful exactly q = Unit {0}

@@ -1,4 +1,4 @@
--- Placements and the least move (document 01, "Least move").
+-- Placements and the least move (document 01, "Least move"; document 02, Items 1 and 6).
 use Prim.Native.Nat.{_<_}
 use mathlib.Core.Path.{_≡_}
 use mathlib.Core.Logic.{_↔_}
@@ -22,8 +22,8 @@ abbrev pub slackOf : Placement → Gap → Fraction
 slackOf p c = slackBetween (p (c .left)) (p (c .right)) (c .distance)
 
 -- whether a gap of this kind holds is told by the sign of its slack, "negative where the gap is broken": that of the
--- numerator, since the denominator is above zero; an exact gap holds where its slack is zero, and an ignored one asks
--- nothing
+-- numerator, since the denominator is above zero; an exact gap, "the equality", holds where its slack is zero, and so "is
+-- always tight" (`exact-tight` in proofs/Slack); an ignored one asks nothing
 abbrev pub HoldsWith : Kind → Fraction → Type 0
 HoldsWith at-least slack = pos 0 ≤ℤ slack .num
 HoldsWith exactly slack = slack .num ≡ pos 0
@@ -66,7 +66,8 @@ move s p i = p i ⊖ whole (s .wanted i)
 unfoldable pub cost : Sheet → Placement → Fraction
 cost s p = total (s .labels) (λ k. s .weight (label k) ⊛ square (move s p (label k)))
 
--- "the feasible placement with the least sum", among all placements in fractions
+-- "the feasible placement with the least sum", among all placements in fractions; "It is unique when a feasible one exists"
+-- (`least-unique` in proofs/Laws)
 pub record LeastMove (s : Sheet) (p : Placement) : Type 0 where
   pub feasible : Feasible s p
   pub least : (q : Placement) → Feasible s q → cost s p ≼ cost s q

@@ -1,5 +1,5 @@
 -- The sheet (document 01, "The sheet"): labels with a wanted place and a weight, and gaps between them.
-use Prim.Native.Nat.{ℕ, _<_}
+use Prim.Native.Nat.{ℕ, zero, suc, _<_}
 use lib.IntN.{ℤ, pos}
 use lib.Signed.{_<ℤ_}
 use Rattle.ground.specs.declared.Label.{Label}
@@ -12,11 +12,18 @@ label i = record { 0 = i }
 abbrev pub gapNumber : ℕ → GapNumber
 gapNumber e = record { 0 = e }
 
--- What a gap asks. Document 01 has gaps of the first kind alone.
+-- What a gap asks: "at least, or exactly" (document 02, Item 6). An ignored gap asks nothing: no sheet that the table lets
+-- pass has one, and the core has it for a later request.
 pub data Kind : Type 0 where
   at-least : Kind
   exactly : Kind
   ignored : Kind
+
+-- "0 at least and 1 exactly"; of what a station lends, 23 refuses any other number
+abbrev pub kindOf : ℕ → Kind
+kindOf zero = at-least
+kindOf (suc zero) = exactly
+kindOf (suc (suc k)) = ignored
 
 -- "A gap names a left label u, a right label v and a distance g"
 pub record Gap : Type 0 where

@@ -26,9 +26,10 @@ pub fn lay_out_array(
     mult_num: &mut [i64],
     mult_den: &mut [i64],
     ring: &mut [usize],
+    back: &mut [u8],
 ) -> Answer
     ensures { λ r.
-        let room = roomLent carried «place_num» «place_den» «mult_num» «mult_den» ring in
+        let room = roomLent carried «place_num» «place_den» «mult_num» «mult_den» ring back in
         ⌜ Promise (arrayLent wanted weight gaps count) (room .entry) r (room .exit) ⌝ }
 {
     lay_out_records(
@@ -41,22 +42,25 @@ pub fn lay_out_array(
         mult_num,
         mult_den,
         ring,
+        back,
     )
 }
 
-// Lays out two sheets: the gaps of the first are three lists, those of the second the first `count` records of an array.
+// Lays out two sheets: the gaps of the first are lists, those of the second the first `count` records of an array.
 pub fn lay_out_both_array(
     wanted: &[i64],
     weight: &[i64],
     left: &[usize],
     right: &[usize],
     distance: &[i64],
+    kind: &[u8],
     carried: &mut [u8],
     place_num: &mut [i64],
     place_den: &mut [i64],
     mult_num: &mut [i64],
     mult_den: &mut [i64],
     ring: &mut [usize],
+    back: &mut [u8],
     second_wanted: &[i64],
     second_weight: &[i64],
     gaps: [GapRecord; RECORDS],
@@ -67,12 +71,13 @@ pub fn lay_out_both_array(
     second_mult_num: &mut [i64],
     second_mult_den: &mut [i64],
     second_ring: &mut [usize],
+    second_back: &mut [u8],
 ) -> Both
     ensures { λ r.
-        let sheet = sheetLent wanted weight left right distance in
-        let room = roomLent carried «place_num» «place_den» «mult_num» «mult_den» ring in
+        let sheet = sheetLent wanted weight left right distance kind in
+        let room = roomLent carried «place_num» «place_den» «mult_num» «mult_den» ring back in
         let secondSheet = arrayLent «second_wanted» «second_weight» gaps count in
-        let secondRoom = roomLent «second_carried» «second_place_num» «second_place_den» «second_mult_num» «second_mult_den» «second_ring» in
+        let secondRoom = roomLent «second_carried» «second_place_num» «second_place_den» «second_mult_num» «second_mult_den» «second_ring» «second_back» in
         ⌜ BothPromised sheet (room .entry) (r .first) (room .exit) secondSheet (secondRoom .entry) (r .second)
         (secondRoom .exit) ⌝ }
 {
@@ -82,12 +87,14 @@ pub fn lay_out_both_array(
         left,
         right,
         distance,
+        kind,
         carried,
         place_num,
         place_den,
         mult_num,
         mult_den,
         ring,
+        back,
         second_wanted,
         second_weight,
         &gaps[..count as usize],
@@ -97,5 +104,6 @@ pub fn lay_out_both_array(
         second_mult_num,
         second_mult_den,
         second_ring,
+        second_back,
     )
 }

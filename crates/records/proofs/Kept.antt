@@ -1,4 +1,4 @@
--- The records that are kept are the list's, if it is not too long, and three lists hold their numbers.
+-- The records that are kept are the list's, if it is not too long, and four lists hold their numbers.
 use Prim.Native.Nat.{ℕ, zero, suc, _+_, _≤_, _<_}
 use mathlib.Core.Path.{_≡_, refl, sym, _∙_}
 use mathlib.Core.Bool.{Bool, true, false, cond, not, _||_}
@@ -78,23 +78,28 @@ copied-keeps gs = record { counted = refl; all = λ h k l. rw (kept-all (length 
 -- ---- taking apart
 
 -- the first n are taken apart
-pub record ApartTo (n : ℕ) (kept : List GapRecord) (left right : List ℕ) (distance : List ℤ) : Type 0 where
+pub record ApartTo (n : ℕ) (kept : List GapRecord) (left right : List ℕ) (distance : List ℤ) (kind : List ℕ) : Type 0 where
   pub left-length : length left ≡ 192
   pub right-length : length right ≡ 192
   pub distance-length : length distance ≡ 192
+  pub kind-length : length kind ≡ 192
   pub lefts : (k : ℕ) → k < n → getD left k 0 ≡ getD kept k noRecord .left
   pub rights : (k : ℕ) → k < n → getD right k 0 ≡ getD kept k noRecord .right
   pub distances : (k : ℕ) → k < n → getD distance k (pos 0) ≡ getD kept k noRecord .distance
+  pub kinds : (k : ℕ) → k < n → getD kind k 0 ≡ getD kept k noRecord .kind
 
-pub apart-start : (kept : List GapRecord) {left right : List ℕ} {distance : List ℤ} → length left ≡ 192 → length right ≡ 192 → length distance ≡ 192 → ApartTo 0 kept left right distance
-apart-start kept l r d =
+pub apart-start : (kept : List GapRecord) {left right : List ℕ} {distance : List ℤ} {kind : List ℕ} → length left ≡ 192 → length right ≡ 192 → length distance ≡ 192 → length kind ≡ 192
+    → ApartTo 0 kept left right distance kind
+apart-start kept l r d b =
     record {
       left-length = l;
       right-length = r;
       distance-length = d;
+      kind-length = b;
       lefts = λ k h. absurd (omega arith);
       rights = λ k h. absurd (omega arith);
       distances = λ k h. absurd (omega arith);
+      kinds = λ k h. absurd (omega arith);
     }
 
 -- one more entry
@@ -105,46 +110,52 @@ set-more none l n f room h k b = go (ltb k n) refl
     go true e = let below : k < n = ltb-true k n e in getD-set-other l n k (f n) none (λ q. omega arith) ∙ h k below
     go false e = let same : k ≡ n = omega (arith, ltb-false k n e) in rw same (getD-set-same l n (f n) none room)
 
-pub apart-turn : {n : ℕ} {kept : List GapRecord} {left right : List ℕ} {distance : List ℤ} {d : ℤ} → n < 192 → d ≡ getD kept n noRecord .distance → ApartTo n kept left right distance
-    → ApartTo (n + 1) kept (set left n (getD kept n noRecord .left)) (set right n (getD kept n noRecord .right)) (set distance n d)
-apart-turn {n} {kept} {left} {right} {distance} {d} room e a =
+pub apart-turn : {n : ℕ} {kept : List GapRecord} {left right : List ℕ} {distance : List ℤ} {kind : List ℕ} {d : ℤ} → n < 192 → d ≡ getD kept n noRecord .distance
+    → ApartTo n kept left right distance kind
+    → ApartTo (n + 1) kept (set left n (getD kept n noRecord .left)) (set right n (getD kept n noRecord .right)) (set distance n d) (set kind n (getD kept n noRecord .kind))
+apart-turn {n} {kept} {left} {right} {distance} {kind} {d} room e a =
     record {
       left-length = length-set left n _ ∙ a .left-length;
       right-length = length-set right n _ ∙ a .right-length;
       distance-length = length-set distance n _ ∙ a .distance-length;
+      kind-length = length-set kind n _ ∙ a .kind-length;
       lefts = set-more 0 left n (λ k. getD kept k noRecord .left) (omega (arith, a .left-length)) (a .lefts);
       rights = set-more 0 right n (λ k. getD kept k noRecord .right) (omega (arith, a .right-length)) (a .rights);
       distances = rw e (set-more (pos 0) distance n (λ k. getD kept k noRecord .distance) (omega (arith, a .distance-length)) (a .distances));
+      kinds = set-more 0 kind n (λ k. getD kept k noRecord .kind) (omega (arith, a .kind-length)) (a .kinds);
     }
 
-pub apart-end : {n : ℕ} {kept : List GapRecord} {left right : List ℕ} {distance : List ℤ} → 192 ≤ n → ApartTo n kept left right distance → Apart kept left right distance
+pub apart-end : {n : ℕ} {kept : List GapRecord} {left right : List ℕ} {distance : List ℤ} {kind : List ℕ} → 192 ≤ n → ApartTo n kept left right distance kind → Apart kept left right distance kind
 apart-end h a =
     record {
       left-length = a .left-length;
       right-length = a .right-length;
       distance-length = a .distance-length;
+      kind-length = a .kind-length;
       lefts = λ k l. a .lefts k (omega arith);
       rights = λ k l. a .rights k (omega arith);
       distances = λ k l. a .distances k (omega arith);
+      kinds = λ k l. a .kinds k (omega arith);
     }
 
 -- ---- the promise
 
 module _ (wanted weight : List ℤ) (count : ℕ) (kept : List GapRecord) (w : Written) where
-  -- the front of the three lists is the list of records
-  pub promise-kept : (left right : List ℕ) (distance : List ℤ) (a : Answer) (after : Written) → count ≤ 192 → Apart kept left right distance
-      → Promise (record { wanted = wanted; weight = weight; gaps = lists (take count left) (take count right) (take count distance) }) w a after
+  -- the front of the four lists is the list of records
+  pub promise-kept : (left right : List ℕ) (distance : List ℤ) (kind : List ℕ) (a : Answer) (after : Written) → count ≤ 192 → Apart kept left right distance kind
+      → Promise (record { wanted = wanted; weight = weight; gaps = lists (take count left) (take count right) (take count distance) (take count kind) }) w a after
       → (gs : List GapRecord) → Keeps gs count kept → Promise (record { wanted = wanted; weight = weight; gaps = records gs }) w a after
-  promise-kept left right distance a after few apart p gs keeps = promise-same wanted weight same w after a p
+  promise-kept left right distance kind a after few apart p gs keeps = promise-same wanted weight same w after a p
     where
-      sizes : (length (take count left) ≡ count) × (length (take count right) ≡ count) × (length (take count distance) ≡ count)
+      sizes : (length (take count left) ≡ count) × (length (take count right) ≡ count) × (length (take count distance) ≡ count) × (length (take count kind) ≡ count)
       sizes = (
         length-take-le count left (omega (arith, apart .left-length)),
         length-take-le count right (omega (arith, apart .right-length)),
         length-take-le count distance (omega (arith, apart .distance-length)),
+        length-take-le count kind (omega (arith, apart .kind-length)),
       )
 
-      gaps : (k : ℕ) → k < length (take count left) → recordAt (lists (take count left) (take count right) (take count distance)) k ≡ getD gs k noRecord
+      gaps : (k : ℕ) → k < length (take count left) → recordAt (lists (take count left) (take count right) (take count distance) (take count kind)) k ≡ getD gs k noRecord
       gaps k l =
           let below : k < count = omega (arith, sizes .0) in
           let whole : k < 192 = omega arith in
@@ -152,13 +163,14 @@ module _ (wanted weight : List ℤ) (count : ℕ) (kept : List GapRecord) (w : W
             left = (getD-take count left k 0 below ∙ apart .lefts k whole) i;
             right = (getD-take count right k 0 below ∙ apart .rights k whole) i;
             distance = (getD-take count distance k (pos 0) below ∙ apart .distances k whole) i;
+            kind = (getD-take count kind k 0 below ∙ apart .kinds k whole) i;
           }) ∙ keeps .all few k below
 
-      even : (b : Bool) → T b → (not b || not b) ≡ false
+      even : (b : Bool) → T b → (not b || not b || not b) ≡ false
       even true t = refl
 
-      same : SameGaps (lists (take count left) (take count right) (take count distance)) (records gs)
-      same = record { count = sizes .0 ∙ sym (keeps .counted); even = rw (sizes .0, sizes .1, sizes .2) (even (eqb count count) (eqb-refl count)); gap = gaps }
+      same : SameGaps (lists (take count left) (take count right) (take count distance) (take count kind)) (records gs)
+      same = record { count = sizes .0 ∙ sym (keeps .counted); even = rw (sizes .0, sizes .1, sizes .2, sizes .3) (even (eqb count count) (eqb-refl count)); gap = gaps }
 
   -- a list that is too long is refused by the first two checks
   long-kept : (s : Sheet) (a : Answer) (labels gaps : ℕ) (ragged short : Bool) (rows : List Row) → (ltb gapsMost gaps ≡ false → ⊥)

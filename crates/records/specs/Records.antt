@@ -22,14 +22,16 @@ unfoldable pub copied : List GapRecord → ℕ → List GapRecord
 copied gs zero = replicate gapsMost noRecord
 copied gs (suc n) = set (copied gs n) n (getD gs n noRecord)
 
--- three lists hold the numbers of the records
-pub record Apart (kept : List GapRecord) (left right : List ℕ) (distance : List ℤ) : Type 0 where
+-- four lists hold the numbers of the records
+pub record Apart (kept : List GapRecord) (left right : List ℕ) (distance : List ℤ) (kind : List ℕ) : Type 0 where
   pub left-length : length left ≡ gapsMost
   pub right-length : length right ≡ gapsMost
   pub distance-length : length distance ≡ gapsMost
+  pub kind-length : length kind ≡ gapsMost
   pub lefts : (k : ℕ) → k < gapsMost → getD left k 0 ≡ getD kept k noRecord .left
   pub rights : (k : ℕ) → k < gapsMost → getD right k 0 ≡ getD kept k noRecord .right
   pub distances : (k : ℕ) → k < gapsMost → getD distance k (pos 0) ≡ getD kept k noRecord .distance
+  pub kinds : (k : ℕ) → k < gapsMost → getD kind k 0 ≡ getD kept k noRecord .kind
 
 -- the records kept are all of the list, if that is not too long
 pub record Keeps (gs : List GapRecord) (count : ℕ) (kept : List GapRecord) : Type 0 where

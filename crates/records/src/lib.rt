@@ -2,9 +2,12 @@
 use ground::Answer;
 use ground::GapRecord;
 use ground::Refusal;
+use ground::lengths::measured_gap_bytes;
 use ground::lengths::measured_gap_indices;
 use ground::lengths::measured_gaps;
+use ground::limits::AT_LEAST;
 use ground::limits::GAPS;
+use ground::limits::GapBytes;
 use ground::limits::GapIndices;
 use ground::limits::GapInts;
 use ground::limits::LABELS;
@@ -37,6 +40,7 @@ fn copy_records(gaps: &[GapRecord], count: usize) -> [GapRecord; GAPS]
         left: 0,
         right: 0,
         distance: 0,
+        kind: AT_LEAST,
     }; GAPS];
     let mut k: usize = 0;
     while k < count {
@@ -52,12 +56,14 @@ fn take_apart(
     left: &mut GapIndices,
     right: &mut GapIndices,
     distance: &mut GapInts,
+    kind: &mut GapBytes,
 )
-    ensures { λ _. ⌜ Apart kept (after left) (after right) (after distance) ⌝ }
+    ensures { λ _. ⌜ Apart kept (after left) (after right) (after distance) (after kind) ⌝ }
 {
     measured_gap_indices(left);
     measured_gap_indices(right);
     measured_gaps(distance);
+    measured_gap_bytes(kind);
     let mut k: usize = 0;
     while k < GAPS {
         let gap = kept[k];
@@ -65,6 +71,7 @@ fn take_apart(
         left[k] = gap.left;
         right[k] = gap.right;
         distance[k] = d;
+        kind[k] = gap.kind;
         k += 1;
     }
 }
@@ -81,9 +88,10 @@ fn lay_out_kept(
     mult_num: &mut [i64],
     mult_den: &mut [i64],
     ring: &mut [usize],
+    back: &mut [u8],
 ) -> Answer
     ensures { λ r.
-        let room = roomLent carried «place_num» «place_den» «mult_num» «mult_den» ring in
+        let room = roomLent carried «place_num» «place_den» «mult_num» «mult_den» ring back in
         ⌜ Owed (before wanted) (before weight) count kept (room .entry) r (room .exit) ⌝ }
 {
     if GAPS < count {
@@ -97,24 +105,27 @@ fn lay_out_kept(
     let mut left = [0usize; GAPS];
     let mut right = [0usize; GAPS];
     let mut distance = [0i64; GAPS];
-    take_apart(kept, &mut left, &mut right, &mut distance);
+    let mut kind = [0u8; GAPS];
+    take_apart(kept, &mut left, &mut right, &mut distance, &mut kind);
     lay_out(
         wanted,
         weight,
         &left[..count],
         &right[..count],
         &distance[..count],
+        &kind[..count],
         carried,
         place_num,
         place_den,
         mult_num,
         mult_den,
         ring,
+        back,
     )
 }
 
 // Lays out a sheet. Anything may be lent; a sheet that breaks a rule is refused,
-// and then nothing is written but a ring's gap numbers.
+// and then nothing is written but a ring, its gap numbers and which of them are passed backwards.
 pub fn lay_out_records(
     wanted: &[i64],
     weight: &[i64],
@@ -125,10 +136,11 @@ pub fn lay_out_records(
     mult_num: &mut [i64],
     mult_den: &mut [i64],
     ring: &mut [usize],
+    back: &mut [u8],
 ) -> Answer
     ensures { λ r.
         let sheet = recordsLent wanted weight gaps in
-        let room = roomLent carried «place_num» «place_den» «mult_num» «mult_den» ring in
+        let room = roomLent carried «place_num» «place_den» «mult_num» «mult_den» ring back in
         ⌜ Promise sheet (room .entry) r (room .exit) ⌝ }
 {
     let count = gaps.len();
@@ -144,5 +156,6 @@ pub fn lay_out_records(
         mult_num,
         mult_den,
         ring,
+        back,
     )
 }

@@ -10,8 +10,8 @@ use Rattle.rooms.specs.declared.Laid.{Laid}
 use Rattle.sheet_checks.specs.Lent.{Written}
 
 -- an answer beside what was lent "to write" and "the carried record"
-abbrev pub laidOf : Answer → (place-num place-den mult-num mult-den : List ℤ) (ring carried : List ℕ) → Laid
-laidOf answer place-num place-den mult-num mult-den ring carried = record {
+abbrev pub laidOf : Answer → (place-num place-den mult-num mult-den : List ℤ) (ring back carried : List ℕ) → Laid
+laidOf answer place-num place-den mult-num mult-den ring back carried = record {
   answer = answer;
   room = record {
     «place_num» = place-num;
@@ -19,6 +19,7 @@ laidOf answer place-num place-den mult-num mult-den ring carried = record {
     «mult_num» = mult-num;
     «mult_den» = mult-den;
     ring = ring;
+    back = back;
     carried = carried;
   };
 }
@@ -31,10 +32,11 @@ written gaps room = record {
   mult-num = room .«mult_num»;
   mult-den = room .«mult_den»;
   ring = room .ring;
+  back = room .back;
   carried = take gaps (room .carried);
 }
 
--- buffers that hold one number, the ring buffer zeros, beside a carried record
+-- buffers that hold one number, the ring buffers zeros, beside a carried record
 abbrev pub filled : ℤ → List ℕ → Written
 filled fill carried = record {
   place-num = replicate labelsMost fill;
@@ -42,5 +44,6 @@ filled fill carried = record {
   mult-num = replicate gapsMost fill;
   mult-den = replicate gapsMost fill;
   ring = replicate labelsMost 0;
+  back = replicate labelsMost 0;
   carried = carried;
 }

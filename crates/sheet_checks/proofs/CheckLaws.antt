@@ -1,7 +1,7 @@
 -- What the checks' loops and tests show of the refusal table: the first offender of a row, and checks one after another.
 use Prim.Native.Nat.{ℕ, zero, suc, _≤_, _<_, _+_, _^_}
 use mathlib.Core.Path.{_≡_, refl, sym, _∙_, ap, subst}
-use mathlib.Core.Bool.{Bool, true, false, cond, _||_}
+use mathlib.Core.Bool.{Bool, true, false, cond}
 use mathlib.Core.List.{List, [], _∷_, _++_, map}
 use native.Mathlib.Omega.{arith}
 use lib.Dec.{ltb}
@@ -19,8 +19,9 @@ use Rattle.sheet_checks.specs.declared.Checked.{Checked}
 use Rattle.sheet_checks.specs.declared.Checked.the-variants.{Pass, Refused}
 use Rattle.sheet_checks.specs.declared.check.Room.{Room}
 use Rattle.sheet_checks.specs.Lent.{Read, lists}
-use Rattle.sheet_checks.specs.Refusals.{Row, firstOf, inTurn, refuse, offenderBelow, offender, sizeTests, tableOf, outside, unequal, raggedSizes, unevenSizes, short, badWeight, badGap, rows, tableFor}
-use Rattle.sheet_checks.specs.Checks.{listInRange, listsOfLabels, Even, contentsOf}
+use Rattle.sheet_checks.specs.Refusals.{Row, firstOf, inTurn, refuse, offenderBelow, offender, sizeTests, tableOf, outside, unequal}
+use Rattle.sheet_checks.specs.Refusals.{raggedSizes, unevenSizes, short, neither, badWeight, badGap, badKind, rows, tableFor}
+use Rattle.sheet_checks.specs.Checks.{listInRange, listsOfLabels, listOfKinds, Even, contentsOf}
 use Rattle.sheet_checks.proofs.Passed.{or-clear, same-of-not, test-pass, turn-pass}
 use Rattle.ground.specs.Limits.{distanceMost, weightLeast, weightMost}
 
@@ -124,6 +125,23 @@ module _ (labels : ℕ) (left right : List ℕ) (k : ℕ) (known : Known labels 
   pub all-known : length left ≤ k → Pass ≡ offender (listsOfLabels labels left right)
   all-known h = none-bad (listsOfLabels labels left right) (λ j l. known j (omega arith))
 
+-- ---- kinds
+
+-- the first k gaps have a kind
+abbrev pub Kinded : List ℕ → ℕ → Type 0
+Kinded kind k = (j : ℕ) → j < k → neither (getD kind j 0) ≡ false
+
+-- at the gap k, after gaps that have one
+module _ (kind : List ℕ) (k : ℕ) (kinded : Kinded kind k) where
+  pub kind-refused : k < length kind → neither (getD kind k 0) ≡ true → refuse 23 k ≡ offender (listOfKinds kind)
+  kind-refused h e = first-bad (listOfKinds kind) k h kinded e
+
+  pub kinded-more : neither (getD kind k 0) ≡ false → Kinded kind (k + 1)
+  kinded-more e = below-more _ k kinded e
+
+  pub all-kinded : length kind ≤ k → Pass ≡ offender (listOfKinds kind)
+  all-kinded h = none-bad (listOfKinds kind) (λ j l. kinded j (omega arith))
+
 -- ---- one check after another
 
 -- a refusal ends the checks
@@ -150,17 +168,20 @@ turns (c ∷ cs) ds = ap (firstOf c) (turns cs ds) ∙ first-of-first c (inTurn 
 
 -- ---- the checks of a sheet
 
--- the three lists as a sheet is read
-abbrev pub readOf : (wanted weight : List ℤ) (left right : List ℕ) (distance : List ℤ) → Read
-readOf wanted weight left right distance = record { wanted = wanted; weight = weight; gaps = lists left right distance }
+-- the lists as a sheet is read
+abbrev pub readOf : (wanted weight : List ℤ) (left right : List ℕ) (distance : List ℤ) (kind : List ℕ) → Read
+readOf wanted weight left right distance kind =
+    record { wanted = wanted; weight = weight; gaps = lists left right distance kind }
 
-module _ (wanted weight : List ℤ) (left right : List ℕ) (distance : List ℤ) where
+module _ (wanted weight : List ℤ) (left right : List ℕ) (distance : List ℤ) (kind : List ℕ) where
   abbrev sheet : Read
-  sheet = readOf wanted weight left right distance
+  sheet = readOf wanted weight left right distance kind
 
   -- 3, from the sizes alone
   abbrev pub raggedly : ℕ → Bool
-  raggedly carried = raggedSizes (length wanted) (length left) (length weight) carried (unevenSizes (length left) (length right) (length distance))
+  raggedly carried =
+      raggedSizes (length wanted) (length left) (length weight) carried
+      (unevenSizes (length left) (length right) (length distance) (length kind))
 
   -- the table is the sizes' checks, and then the contents'
   pub table-parts : (room : Room)
@@ -171,22 +192,31 @@ module _ (wanted weight : List ℤ) (left right : List ℕ) (distance : List ℤ
       sym (turns (sizeTests (length wanted) (length left) (raggedly (room .carried)) (short (length wanted) (length left) room)) (map offender (rows sheet)))
 
   -- lists that are not ragged belong together
-  pub sized-even : (carried : ℕ) (short : Bool) → Pass ≡ inTurn (sizeTests (length wanted) (length left) (raggedly carried) short) → Even wanted weight left right distance
-  sized-even carried short e =
-      let clear = test-pass 3 (raggedly carried) (turn-pass (sizeTests (length wanted) (length left) (raggedly carried) short) (sym e) .1 .1 .0) in
-      let first = or-clear (unequal (length weight) (length wanted) || (unequal (length right) (length left) || unequal (length distance) (length left))) (unequal carried (length left)) clear in
-      let second = or-clear (unequal (length weight) (length wanted)) (unequal (length right) (length left) || unequal (length distance) (length left)) (first .0) in
-      let third = or-clear (unequal (length right) (length left)) (unequal (length distance) (length left)) (second .1) in
+  pub even-of-clear : (carried : ℕ) → raggedly carried ≡ false → Even wanted weight left right distance kind
+  even-of-clear carried clear =
+      let first = or-clear _ (unequal carried (length left)) clear in
+      let second = or-clear (unequal (length weight) (length wanted)) _ (first .0) in
+      let third = or-clear _ (unequal (length kind) (length left)) (second .1) in
+      let fourth = or-clear (unequal (length right) (length left)) (unequal (length distance) (length left)) (third .0) in
       record {
         weights = same-of-not (length weight) (length wanted) (second .0);
-        rights = same-of-not (length right) (length left) (third .0);
-        distances = same-of-not (length distance) (length left) (third .1);
+        rights = same-of-not (length right) (length left) (fourth .0);
+        distances = same-of-not (length distance) (length left) (fourth .1);
+        kinds = same-of-not (length kind) (length left) (third .1);
       }
 
+  pub sized-even : (carried : ℕ) (short : Bool) → Pass ≡ inTurn (sizeTests (length wanted) (length left) (raggedly carried) short) → Even wanted weight left right distance kind
+  sized-even carried short e =
+      let clear = test-pass 3 (raggedly carried) (turn-pass (sizeTests (length wanted) (length left) (raggedly carried) short) (sym e) .1 .1 .0) in
+      even-of-clear carried clear
+
   -- lists of one length are counted alike
-  module _ (even : Even wanted weight left right distance) where
+  module _ (even : Even wanted weight left right distance kind) where
     pub weights-counted : offender (listInRange weight (pos weightLeast) (pos weightMost) 6) ≡ offender (badWeight sheet)
     weights-counted = ap (λ n. offenderBelow 6 n (badWeight sheet .bad)) (even .weights)
 
     pub distances-counted : offender (listInRange distance (negℤ (pos distanceMost)) (pos distanceMost) 8) ≡ offender (badGap sheet)
     distances-counted = ap (λ n. offenderBelow 8 n (badGap sheet .bad)) (even .distances)
+
+    pub kinds-counted : offender (listOfKinds kind) ≡ offender (badKind sheet)
+    kinds-counted = ap (λ n. offenderBelow 23 n (badKind sheet .bad)) (even .kinds)

@@ -1,8 +1,8 @@
 -- What a passed table tells of the sheet.
 use Prim.Native.Nat.{ℕ, zero, suc, _≤_, _<_}
 use mathlib.Core.Path.{_≡_, refl, ap₂}
-use mathlib.Core.Logic.{⊎-elim}
-use mathlib.Core.Bool.{Bool, true, false, cond, not, _||_}
+use mathlib.Core.Logic.{_≢_, ⊎-elim}
+use mathlib.Core.Bool.{Bool, true, false, cond, not, _&&_, _||_}
 use mathlib.Core.List.{List, [], _∷_, _++_, map}
 use native.Mathlib.Omega.{arith}
 use lib.Dec.{eqb, ltb}
@@ -12,14 +12,16 @@ use lib.Signed.{_<ℤ_}
 use borrow.Author.Tests.{ltb-true, ltb-false, eqb-true, not-false}
 use Rattle.algebra.proofs.Sum.{last-or-below}
 use Rattle.algebra.proofs.Whole.{parts-lt}
-use Rattle.least_move.specs.Sheet.{Proper}
+use Rattle.least_move.specs.Sheet.{Proper, ignored, kindOf}
 use Rattle.ground.specs.declared.Refusal.{Refusal}
 use Rattle.ground.specs.Entries.{Each}
+use Rattle.ground.specs.Kinds.{atLeastByte, exactlyByte}
 use Rattle.ground.specs.Limits.{gapsMost, labelsMost, weightLeast, weightMost}
 use Rattle.sheet_checks.specs.declared.Checked.{Checked}
 use Rattle.sheet_checks.specs.declared.Checked.the-variants.{Pass, Refused}
 use Rattle.sheet_checks.specs.Lent.{Read, Written, labelCount, gapCount, recordAt, sheetOf}
-use Rattle.sheet_checks.specs.Refusals.{Row, refuse, firstOf, inTurn, test, offenderBelow, offender, sizeTests, tableOf, unequal, outside, roomOf, ragged, short, offPlate, badWeight, stranger, badGap, rows, table}
+use Rattle.sheet_checks.specs.Refusals.{Row, refuse, firstOf, inTurn, test, offenderBelow, offender, sizeTests, tableOf, unequal, outside}
+use Rattle.sheet_checks.specs.Refusals.{neither, roomOf, ragged, short, offPlate, badWeight, stranger, badGap, badKind, rows, table}
 
 -- a refusal is no pass
 pub not-pass : {q : Refusal} → Refused q ≡ Pass → ⊥
@@ -82,6 +84,7 @@ pub record Passed (r : Read) (w : Written) : Type 0 where
   pub weighed : (k : ℕ) → k < labelCount r → badWeight r .bad k ≡ false
   pub known : (k : ℕ) → k < gapCount r → stranger r .bad k ≡ false
   pub measured : (k : ℕ) → k < gapCount r → badGap r .bad k ≡ false
+  pub kinded : (k : ℕ) → k < gapCount r → badKind r .bad k ≡ false
 
 pub table-passed : (r : Read) (w : Written) → table r w ≡ Pass → Passed r w
 unfolding tableOf
@@ -96,6 +99,7 @@ table-passed r w e =
       weighed = offender-pass (badWeight r) (c .1 .1 .1 .1 .1 .0);
       known = offender-pass (stranger r) (c .1 .1 .1 .1 .1 .1 .0);
       measured = offender-pass (badGap r) (c .1 .1 .1 .1 .1 .1 .1 .0);
+      kinded = offender-pass (badKind r) (c .1 .1 .1 .1 .1 .1 .1 .1 .0);
     }
 
 -- a weight in its range is above zero
@@ -109,6 +113,21 @@ pub ends-in : (u v n : ℕ) → (not (ltb u n) || not (ltb v n)) ≡ false → (
 ends-in u v n e =
     let clear : (not (ltb u n) ≡ false) × (not (ltb v n) ≡ false) = or-clear (not (ltb u n)) (not (ltb v n)) e in
     (ltb-true u n (not-false (ltb u n) (clear .0)), ltb-true v n (not-false (ltb v n) (clear .1)))
+
+-- check 23 passed: a kind is at least or exactly
+pub kind-known : (kind : ℕ) → neither kind ≡ false → kind ≤ exactlyByte
+kind-known kind e = go (eqb kind atLeastByte) (eqb kind exactlyByte) refl refl e
+  where
+    go : (least exact : Bool) → eqb kind atLeastByte ≡ least → eqb kind exactlyByte ≡ exact → (not least && not exact) ≡ false → kind ≤ exactlyByte
+    go true exact p q f = omega (arith, eqb-true kind atLeastByte p)
+    go false true p q f = omega (arith, eqb-true kind exactlyByte q)
+    go false false p q f = absurd (let z : _≡_ {A = ℕ} 0 1 = cc in omega arith)
+
+-- and so no gap of a sheet that passed is ignored
+pub asks : (kind : ℕ) → neither kind ≡ false → kindOf kind ≢ ignored
+asks zero e is = let z : _≡_ {A = ℕ} 0 1 = cc in omega arith
+asks (suc zero) e is = let z : _≡_ {A = ℕ} 0 1 = cc in omega arith
+asks (suc (suc kind)) e is = omega (arith, kind-known (suc (suc kind)) e)
 
 -- checks 6 and 7 passed: the sheet is proper
 pub passed-proper : (r : Read) (w : Written) → table r w ≡ Pass → Proper (sheetOf r)

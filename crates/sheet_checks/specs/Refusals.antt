@@ -1,7 +1,7 @@
--- The refusal table (document 01), in the order of its checks.
--- What it decides is 1 to 8; 9 is tied to the absence of a placement in Promise.
+-- The refusal table (document 01; document 02, Item 6), in the order of its checks.
+-- What it decides is 1 to 8 and 23; 9 is tied to the absence of a placement in Promise.
 use Prim.Native.Nat.{ℕ, zero, suc}
-use mathlib.Core.Bool.{Bool, false, cond, not, _||_}
+use mathlib.Core.Bool.{Bool, false, cond, not, _&&_, _||_}
 use mathlib.Core.List.{List, [], _∷_, _++_, map}
 use lib.Dec.{ltb, eqb}
 use lib.ListN.{length}
@@ -13,6 +13,7 @@ use Rattle.sheet_checks.specs.declared.check.Room.{Room}
 use Rattle.sheet_checks.specs.Lent.{Read, Written, LentGaps, lists, records, labelCount, gapCount, recordAt}
 use Rattle.ground.specs.Answers.{refusedAt}
 use Rattle.ground.specs.Entries.{int}
+use Rattle.ground.specs.Kinds.{atLeastByte, exactlyByte}
 use Rattle.ground.specs.Limits.{distanceMost, gapsMost, labelsMost, wantedMost, weightLeast, weightMost}
 
 -- ---- what a check answers
@@ -84,29 +85,30 @@ roomOf w = record {
   multipliers = length (w .mult-num);
   «multiplier_dens» = length (w .mult-den);
   ring = length (w .ring);
+  back = length (w .back);
   carried = length (w .carried);
 }
 
 -- 3 "lists that belong together differ in length:
--- places with weights, the three gap lists, the carried record with the gaps"
+-- places with weights, the three gap lists, the carried record with the gaps"; "3 and 4 cover the new list and buffer"
 abbrev pub raggedSizes : (labels gaps weights carried : ℕ) (isUneven : Bool) → Bool
 raggedSizes labels gaps weights carried isUneven = unequal weights labels || isUneven || unequal carried gaps
 
-abbrev pub unevenSizes : (gaps rights distances : ℕ) → Bool
-unevenSizes gaps rights distances = unequal rights gaps || unequal distances gaps
+abbrev pub unevenSizes : (gaps rights distances kinds : ℕ) → Bool
+unevenSizes gaps rights distances kinds = unequal rights gaps || unequal distances gaps || unequal kinds gaps
 
 abbrev pub uneven : LentGaps → Bool
-uneven (lists l r g) = unevenSizes (length l) (length r) (length g)
+uneven (lists l r g k) = unevenSizes (length l) (length r) (length g) (length k)
 uneven (records gs) = false
 
 abbrev pub ragged : Read → (carried : ℕ) → Bool
 ragged r carried = raggedSizes (labelCount r) (gapCount r) (length (r .weight)) carried (uneven (r .gaps))
 
--- 4 "a place or ring buffer below the label count, or a multiplier buffer below the gap count"
+-- 4 "a place or ring buffer below the label count, or a multiplier buffer below the gap count"; there are two ring buffers
 abbrev pub short : (labels gaps : ℕ) → Room → Bool
 short labels gaps room =
     ltb (room .places) labels || ltb (room .«place_dens») labels || ltb (room .ring) labels
-    || ltb (room .multipliers) gaps || ltb (room .«multiplier_dens») gaps
+    || ltb (room .back) labels || ltb (room .multipliers) gaps || ltb (room .«multiplier_dens») gaps
 
 -- a check that each number is in its range
 abbrev pub rangeRow : (number count : ℕ) (least most : ℤ) → (ℕ → ℤ) → Row
@@ -134,8 +136,18 @@ stranger r = strangerRow (labelCount r) (gapCount r) (λ k. recordAt (r .gaps) k
 abbrev pub badGap : Read → Row
 badGap r = rangeRow 8 (gapCount r) (negℤ (pos distanceMost)) (pos distanceMost) (λ k. recordAt (r .gaps) k .distance)
 
+-- "23 for a kind that is neither, place the gap, after 8"
+abbrev pub neither : ℕ → Bool
+neither kind = unequal kind atLeastByte && unequal kind exactlyByte
+
+abbrev pub kindRow : (gaps : ℕ) (kind : ℕ → ℕ) → Row
+kindRow gaps kind = record { number = 23; count = gaps; bad = λ k. neither (kind k) }
+
+abbrev pub badKind : Read → Row
+badKind r = kindRow (gapCount r) (λ k. recordAt (r .gaps) k .kind)
+
 abbrev pub rows : Read → List Row
-rows r = offPlate r ∷ badWeight r ∷ stranger r ∷ badGap r ∷ []
+rows r = offPlate r ∷ badWeight r ∷ stranger r ∷ badGap r ∷ badKind r ∷ []
 
 -- the table of a layout call, from the sizes of what it is lent to write
 abbrev pub tableFor : Read → Room → Checked

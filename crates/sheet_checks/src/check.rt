@@ -1,7 +1,9 @@
-// The checks of the refusal table, 1 to 8, each over the whole sheet before the next.
+// The checks of the refusal table, 1 to 8 and 23, each over the whole sheet before the next.
 use crate::Checked;
 use ground::Refusal;
+use ground::limits::AT_LEAST;
 use ground::limits::DISTANCE_MOST;
+use ground::limits::EXACTLY;
 use ground::limits::GAPS;
 use ground::limits::LABELS;
 use ground::limits::WANTED_MOST;
@@ -10,9 +12,9 @@ use ground::limits::WEIGHT_MOST;
 ghost use mathlib.Core.Path.{_≡_};
 ghost use lib.ListN.{length};
 ghost use Rattle.sheet_checks.specs.Lent.{sheetLent};
-ghost use Rattle.sheet_checks.specs.Refusals.{inTurn, offender, raggedSizes, refuse, sizeTests, tableFor, unevenSizes};
+ghost use Rattle.sheet_checks.specs.Refusals.{inTurn, neither, offender, raggedSizes, refuse, sizeTests, tableFor, unevenSizes};
 ghost use Rattle.sheet_checks.specs.Refusals.{short as shortRoom};
-ghost use Rattle.sheet_checks.specs.Checks.{Even, contentsOf, listInRange, listsOfLabels};
+ghost use Rattle.sheet_checks.specs.Checks.{Even, contentsOf, listInRange, listOfKinds, listsOfLabels};
 ghost use Rattle.ground.specs.Views.{before};
 
 // The sizes of what is lent besides the lists that are read.
@@ -22,6 +24,7 @@ pub struct Room {
     pub multipliers: usize,
     pub multiplier_dens: usize,
     pub ring: usize,
+    pub back: usize,
     pub carried: usize,
 }
 
@@ -71,6 +74,30 @@ fn first_stranger(labels: usize, left: &[usize], right: &[usize]) -> Checked
     Checked::Pass
 }
 
+// Whether a kind is neither at least nor exactly.
+fn is_neither(kind: u8) -> bool
+    ensures { λ r. ⌜ r ≡ neither kind ⌝ }
+{
+    if kind == AT_LEAST {
+        return false;
+    }
+    kind != EXACTLY
+}
+
+// 23: the first gap whose kind is neither.
+fn first_bad_kind(kind: &[u8]) -> Checked
+    ensures { λ r. ⌜ r ≡ offender (listOfKinds (before kind)) ⌝ }
+{
+    let mut gap: usize = 0;
+    while gap < kind.len() {
+        if is_neither(kind[gap]) {
+            return refused(23, gap);
+        }
+        gap += 1;
+    }
+    Checked::Pass
+}
+
 // 3: lists that belong together differ in length.
 fn ragged(
     labels: usize,
@@ -78,9 +105,10 @@ fn ragged(
     weights: usize,
     rights: usize,
     distances: usize,
+    kinds: usize,
     carried: usize,
 ) -> bool
-    ensures { λ r. ⌜ r ≡ raggedSizes labels gaps weights carried (unevenSizes gaps rights distances) ⌝ }
+    ensures { λ r. ⌜ r ≡ raggedSizes labels gaps weights carried (unevenSizes gaps rights distances kinds) ⌝ }
 {
     if weights != labels {
         return true;
@@ -89,6 +117,9 @@ fn ragged(
         return true;
     }
     if distances != gaps {
+        return true;
+    }
+    if kinds != gaps {
         return true;
     }
     carried != gaps
@@ -105,6 +136,9 @@ fn short(labels: usize, gaps: usize, room: Room) -> bool
         return true;
     }
     if room.ring < labels {
+        return true;
+    }
+    if room.back < labels {
         return true;
     }
     if room.multipliers < gaps {
@@ -132,16 +166,17 @@ fn sizes(labels: usize, gaps: usize, ragged: bool, short: bool) -> Checked
     Checked::Pass
 }
 
-// Checks 5 to 8.
+// Checks 5 to 8, and 23.
 fn contents(
     wanted: &[i64],
     weight: &[i64],
     left: &[usize],
     right: &[usize],
     distance: &[i64],
+    kind: &[u8],
 ) -> Checked
-    requires { ⌜ Even (now wanted) (now weight) (now left) (now right) (now distance) ⌝ }
-    ensures { λ r. ⌜ r ≡ contentsOf (sheetLent wanted weight left right distance) ⌝ }
+    requires { ⌜ Even (now wanted) (now weight) (now left) (now right) (now distance) (now kind) ⌝ }
+    ensures { λ r. ⌜ r ≡ contentsOf (sheetLent wanted weight left right distance kind) ⌝ }
 {
     let plate = first_outside(wanted, -WANTED_MOST, WANTED_MOST, 5);
     let Checked::Pass = plate else {
@@ -155,19 +190,24 @@ fn contents(
     let Checked::Pass = strangers else {
         return strangers;
     };
-    first_outside(distance, -DISTANCE_MOST, DISTANCE_MOST, 8)
+    let distances = first_outside(distance, -DISTANCE_MOST, DISTANCE_MOST, 8);
+    let Checked::Pass = distances else {
+        return distances;
+    };
+    first_bad_kind(kind)
 }
 
-// All checks of a sheet whose gaps are lent as three lists.
+// All checks of a sheet whose gaps are lent as lists.
 pub fn check(
     wanted: &[i64],
     weight: &[i64],
     left: &[usize],
     right: &[usize],
     distance: &[i64],
+    kind: &[u8],
     room: Room,
 ) -> Checked
-    ensures { λ r. ⌜ r ≡ tableFor (sheetLent wanted weight left right distance) room ⌝ }
+    ensures { λ r. ⌜ r ≡ tableFor (sheetLent wanted weight left right distance kind) room ⌝ }
 {
     let labels = wanted.len();
     let gaps = left.len();
@@ -177,6 +217,7 @@ pub fn check(
         weight.len(),
         right.len(),
         distance.len(),
+        kind.len(),
         room.carried,
     );
     let short = short(labels, gaps, room);
@@ -184,5 +225,5 @@ pub fn check(
     let Checked::Pass = first else {
         return first;
     };
-    contents(wanted, weight, left, right, distance)
+    contents(wanted, weight, left, right, distance, kind)
 }

@@ -1,4 +1,4 @@
-// What a station lends, and the checks 1 to 8 of the refusal table.
+// What a station lends, and the checks 1 to 8 and 23 of the refusal table.
 use ground::Refusal;
 
 pub mod check;

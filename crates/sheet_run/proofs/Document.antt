@@ -1,17 +1,19 @@
 -- Whole runs that follow from the promise: whatever keeps it prints these bytes for the text of document 01's own run, for
--- that of document 02's mixed sheet (Item 3) and for that of its labels that cross (Item 4).
+-- that of document 02's mixed sheet (Item 3), for that of its labels that cross (Item 4) and for two labels joined rigidly
+-- (Item 6).
 use Prim.Native.Nat.{ℕ}
 use mathlib.Core.Path.{_≡_, refl, _∙_}
 use mathlib.Core.List.{List, _++_}
 use native.Mathlib.Omega.{arith}
 use lib.Dec.{lit<}
 use lib.ListN.{take}
-use Rattle.least_move.specs.Bench.{P3, mixed, crossing, bench}
+use Rattle.least_move.specs.Bench.{P3, mixed, crossing, joined, bench}
 use Rattle.layout.specs.BenchCalls.{EachCall, PlacedSo}
 use Rattle.layout.proofs.BenchCalls.{case-answers}
 use Rattle.text_reading.specs.Texts.{filled, roomFor, reading}
-use Rattle.text_reading.proofs.Examples.{document-text, document-sheet, document-run, mixed-text, mixed-sheet, mixed-read, crossing-text, crossing-sheet, crossing-read}
-use Rattle.text_listing.proofs.Samples.{first-record, run-listed, second-record, slack-record, mixed-listed, mixed-listing, crossing-listed, crossing-listing}
+use Rattle.text_reading.proofs.Examples.{document-text, document-sheet, document-run, mixed-text, mixed-sheet, mixed-read}
+use Rattle.text_reading.proofs.Examples.{crossing-text, crossing-sheet, crossing-read, pair-text, pair-sheet, pair-read}
+use Rattle.text_listing.proofs.Samples.{first-record, run-listed, second-record, slack-record, mixed-listed, mixed-listing, crossing-listed, crossing-listing, pair-listed, pair-listing}
 use Rattle.sheet_run.specs.Run.{Run}
 use Rattle.sheet_run.proofs.PlacedRuns.{Tells, placed-prints}
 
@@ -81,3 +83,25 @@ crossing-tells = record {
 pub crossing-prints : {before after : List ℕ} {n : ℕ} → Run crossing-text before n after → take n after ≡ crossing-listing
 unfolding filled
 crossing-prints r = placed-prints crossing-tells crossing-lays r ∙ crossing-listed
+
+-- ---- document 02, Item 6: the text of two labels joined rigidly
+
+joined-lays : EachCall (joined .sheet) (PlacedSo joined)
+unfolding bench
+joined-lays = case-answers 13 (lit< tt)
+
+pair-tells : Tells pair-text pair-sheet joined
+unfolding reading roomFor filled
+pair-tells = record {
+  typed = rw pair-read;
+  read-as = refl;
+  lent-with = record { carried = refl; room = refl };
+  per-label = refl;
+  labels = refl;
+  few = omega arith;
+}
+
+-- a run on it that keeps the promise prints 2 and 8, and a slack of 0/1
+pub pair-prints : {before after : List ℕ} {n : ℕ} → Run pair-text before n after → take n after ≡ pair-listing
+unfolding filled
+pair-prints r = placed-prints pair-tells joined-lays r ∙ pair-listed

@@ -74,7 +74,7 @@ module _ (c : Counts) (l : Lists) (w after : Written) (few : c .labels ≤ 48) (
   pub laid-out-most : (a : Answer) → Promise (sheetRead c l) w a after → length (listing a noField (listableRead c l after)) ≤ listingRoom
   laid-out-most (answer.Refused x) p =
       let small = small-answer (sheetRead c l) w (answer.Refused x) after (omega (arith, counted)) (omega (arith, take-most (c .gaps) (l .left))) p in
-      refused-most x noField (no-field (x .number) (omega (arith, small .0))) (small .1)
+      refused-most x noField (no-field (x .number) (small .0) (small .1)) (small .2)
   laid-out-most answer.Placed p = placed-most (placed-accepted p refl)
 
 -- what is printed for any text has at most 24,576 bytes

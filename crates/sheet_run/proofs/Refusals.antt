@@ -22,14 +22,14 @@ use Rattle.text_rows.specs.declared.Row.{Row}
 use Rattle.text_reading.specs.declared.Reading.{Reading}
 use Rattle.text_reading.specs.declared.Reading.the-variants.{Sheet, Refused}
 use Rattle.text_rows.specs.Lines.{lines, push, startsWith, lineFeed, carriageReturn}
-use Rattle.text_rows.specs.Taking.{taken}
+use Rattle.text_rows.specs.Taking.{NamesNone, numberMost, taken}
 use Rattle.text_reading.specs.Texts.{Typed, nothingTyped, add, earlierOf, Outcome, bad-line, sheet, follow, readFrom}
 use Rattle.text_reading.specs.Texts.{Lists, Done, filled, reading, textMost}
 use Rattle.text_reading.proofs.ReadingCases.{reading-cases}
 
--- a refusal of the layout's, whose number and place are small
+-- a refusal of the layout's, whose number names no field, and whose number and place are small
 abbrev pub Small : Refusal → Type 0
-Small r = (r .number ≤ 9) × (r .place ≤ textMost)
+Small r = NamesNone (r .number) × (r .number ≤ numberMost) × (r .place ≤ textMost)
 
 -- ---- a text
 
@@ -80,15 +80,17 @@ small-reading text b =
     (λ short n number field e.
     let below : n < suc textMost = subst (LineBelow (suc textMost)) e (line-below (lines text) 1 nothingTyped (suc textMost) (omega (arith, lines-most text))) in
     omega arith)
-    (λ t few gaps. (few, gaps, labels-filled t b))
+    (λ t read few gaps. (few, gaps, labels-filled t b))
 
 -- ---- a sheet
 
 small-table : (r : Read) (w : Written) → labelCount r ≤ textMost → gapCount r ≤ textMost → Told Small (table r w)
 small-table r w l g =
     table-told Small (labelCount r) (gapCount r) (ragged r (length (w .carried))) (short (labelCount r) (gapCount r) (roomOf w)) (rows r)
-    ((omega arith, omega arith), (omega arith, omega arith), (omega arith, omega arith), (omega arith, omega arith))
-    ((λ k h. (omega arith, omega arith)), ((λ k h. (omega arith, omega arith)), ((λ k h. (omega arith, omega arith)), ((λ k h. (omega arith, omega arith)), tt))))
+    ((omega arith, omega arith, omega arith), (omega arith, omega arith, omega arith), (omega arith, omega arith, omega arith), (omega arith, omega arith, omega arith)) (
+      (λ k h. (omega arith, omega arith, omega arith)),
+      ((λ k h. (omega arith, omega arith, omega arith)), ((λ k h. (omega arith, omega arith, omega arith)), ((λ k h. (omega arith, omega arith, omega arith)), ((λ k h. (omega arith, omega arith, omega arith)), tt)))),
+    )
 
 abbrev pub SmallAnswer : Answer → Type 0
 SmallAnswer answer.Placed = Unit {0}
@@ -103,5 +105,5 @@ small-answer r w a after l g p = go (table r w) (small-table r w l g) (p .kept)
     go checked.Pass s k =
         ⊎-elim
         (λ placed. subst SmallAnswer (sym (placed .0)) tt)
-        (λ ring. subst SmallAnswer (sym (ring .0)) (omega arith, omega arith))
+        (λ ring. subst SmallAnswer (sym (ring .0)) (omega arith, omega arith, omega arith))
         k

@@ -8,6 +8,7 @@ use lib.IntN.{pos, negsuc}
 use Rattle.ground.specs.declared.Refusal.{Refusal}
 use Rattle.ground.specs.declared.Answer.{Answer}
 use Rattle.ground.specs.declared.Answer.the-variants as answer
+use Rattle.ground.specs.Kinds.{atLeastByte}
 use Rattle.least_move.specs.Bench.{P7}
 use Rattle.layout.specs.BenchCalls.{RefusedSo, as-lists}
 use Rattle.layout.proofs.WrongParts.{P7-rings}
@@ -15,7 +16,7 @@ use Rattle.sheet_checks.specs.Lent.{Written, gapCount, labelCount}
 use Rattle.text_rows.specs.Bytes.{bytes}
 use Rattle.text_rows.specs.Lines.{fields, lines}
 use Rattle.text_rows.specs.Numeral.{allDigits, digitsOf, number, signed, valueOf, weightOf}
-use Rattle.text_rows.specs.Taking.{FieldTold, noField, rowOf, same}
+use Rattle.text_rows.specs.Taking.{FieldTold, noField, rowOf, sameBytes}
 use Rattle.text_rows.proofs.BadLines.{no-field}
 use Rattle.text_reading.specs.declared.Counts.{Counts}
 use Rattle.text_reading.specs.declared.Reading.{Reading}
@@ -49,7 +50,7 @@ sheet-refused {w} {c} {l} laid labels gaps r e =
     let few : SmallAnswer (answer.Refused r) = subst SmallAnswer e (small-answer (sheetRead c l) w (laid .answer) (laid .after) labels gaps (laid .promise)) in
     record {
       shown = laid .listed ∙ ap (λ (a : Answer). listing a noField (listableRead c l (laid .after))) e;
-      told = no-field (r .number) (omega (arith, few .0));
+      told = no-field (r .number) (few .0) (few .1);
     }
 
 -- and so of every run on a text that is read as a sheet
@@ -67,22 +68,22 @@ run-refusal {text} {after = after} {n} {c} run read =
 module _ {before after : List ℕ} {n : ℕ} where
   -- 10: a blank line
   pub blank-prints : Run (bytes "\r\n") before n after → take n after ≡ bytes "refused,10,1,0\r\n"
-  unfolding reading readFrom rowOf same fields lines digitsOf
+  unfolding reading readFrom rowOf sameBytes fields lines digitsOf
   blank-prints run = text-refused run _ _ refl .shown
 
   -- 13: a word with a capital
   pub word-prints : Run (bytes "Label,0,0,1\r\n") before n after → take n after ≡ bytes "refused,13,1,1\r\n"
-  unfolding reading readFrom rowOf same fields lines digitsOf
+  unfolding reading readFrom rowOf sameBytes fields lines digitsOf
   word-prints run = text-refused run _ _ refl .shown
 
   -- 14: a label out of turn with a bad weight
   pub number-prints : Run (bytes "label,7,0,x\r\n") before n after → take n after ≡ bytes "refused,14,1,4\r\n"
-  unfolding reading readFrom rowOf same fields lines number signed weightOf allDigits valueOf digitsOf
+  unfolding reading readFrom rowOf sameBytes fields lines number signed weightOf allDigits valueOf digitsOf
   number-prints run = text-refused run _ _ refl .shown
 
   -- 15: a label out of turn, in front of a line without four fields
   pub turn-prints : Run (bytes "label,0,0,1\r\nlabel,5,0,1\r\nx\r\n") before n after → take n after ≡ bytes "refused,15,2,2\r\n"
-  unfolding reading readFrom rowOf same fields lines number signed weightOf allDigits valueOf digitsOf
+  unfolding reading readFrom rowOf sameBytes fields lines number signed weightOf allDigits valueOf digitsOf
   turn-prints run = text-refused run _ _ refl .shown
 
   -- 11: one byte too many, whatever it is
@@ -97,11 +98,11 @@ ring-text = bytes "label,0,0,1\r\nlabel,1,0,1\r\ngap,0,1,5\r\ngap,1,0,-4\r\n"
 abbrev ring-sheet : Typed
 ring-sheet = record {
   labels = record { wanted = pos 0; weight = pos 1 } ∷ record { wanted = pos 0; weight = pos 1 } ∷ [];
-  gaps = record { left = 0; right = 1; distance = pos 5 } ∷ record { left = 1; right = 0; distance = negsuc 3 } ∷ [];
+  gaps = record { left = 0; right = 1; distance = pos 5; kind = atLeastByte } ∷ record { left = 1; right = 0; distance = negsuc 3; kind = atLeastByte } ∷ [];
 }
 
 ring-read : reading ring-text zeroLists ≡ record { answer = Sheet (countsOf ring-sheet); lists = filled ring-sheet zeroLists }
-unfolding reading readFrom rowOf same fields lines number signed weightOf allDigits valueOf roomFor
+unfolding reading readFrom rowOf sameBytes fields lines number signed weightOf allDigits valueOf roomFor
 ring-read = refl
 
 pub ring-prints : {before after : List ℕ} {n : ℕ} → Run ring-text before n after → take n after ≡ bytes "refused,9,0,0\r\n"

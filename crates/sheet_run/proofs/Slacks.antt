@@ -1,6 +1,6 @@
 -- The slack that is printed for a gap of an accepted sheet is the gap's own: 12 and 8 meet none. So none is below zero, and
--- that of a tight gap, a marked one, or one with a multiplier other than zero, is 0/1 (document 02, Item 1). Nothing cites
--- them.
+-- that of a tight gap, an exact one, a marked one, or one with a multiplier other than zero, is 0/1 (document 02, Items 1 and
+-- 6). Nothing cites them.
 use Prim.Native.Nat.{ℕ, suc, _≤_, _<_}
 use mathlib.Core.Path.{_≡_, refl, sym, ap, ap₂, _∙_}
 use mathlib.Core.Bool.{Bool, true, false, _||_}
@@ -21,12 +21,12 @@ use Rattle.exact.specs.declared.Fraction.{Fraction}
 use Rattle.exact.specs.Fraction.{_≃_, whole}
 use Rattle.single_fractions.specs.Slack.{slackAnswer, slackGiven, withinDistance}
 use Rattle.single_fractions.proofs.Slacks.{slack-of-places}
-use Rattle.least_move.specs.Sheet.{Proper, label}
+use Rattle.least_move.specs.Sheet.{Proper, exactly, label}
 use Rattle.least_move.specs.Placement.{slackOf, Tight}
-use Rattle.least_move.proofs.Slack.{held-slack, loaded-slack, marked-slack, tight-slack}
+use Rattle.least_move.proofs.Slack.{exact-slack, held-slack, loaded-slack, marked-slack, tight-slack}
 use Rattle.sheet_checks.specs.Lent.{Read, Written, gapCount, labelCount, lists, multiplierOf, placeOf, sheetOf}
 use Rattle.sheet_checks.specs.Refusals.{outside}
-use Rattle.sheet_checks.proofs.Passed.{Passed, or-clear, table-passed}
+use Rattle.sheet_checks.proofs.Passed.{Passed, asks, or-clear, table-passed}
 use Rattle.layout.specs.Promise.{Accepted, Promise, markOf}
 use Rattle.layout.proofs.Facts.{placed-accepted, placed-passes, placed-proper}
 use Rattle.layout.proofs.Laws.{place-within}
@@ -42,21 +42,21 @@ distance-passed : (z : ℤ) → outside (negℤ (pos distanceMost)) (pos distanc
 distance-passed (pos k) e = le-leb k distanceMost (ltb-false distanceMost k e)
 distance-passed (negsuc k) e = le-leb (suc k) distanceMost (omega (arith, ltb-false 19999 k (or-clear (ltb 19999 k) false e .0)))
 
--- a sheet whose gaps are lent as the listing is lent them
-abbrev pub callOn : (wanted weight : List ℤ) → Listable → Read
-callOn wanted weight l = record { wanted = wanted; weight = weight; gaps = lists (l .left) (l .right) (l .distance) }
+-- a sheet whose gaps are lent as the listing is lent them, of these kinds
+abbrev pub callOn : (wanted weight : List ℤ) (kind : List ℕ) → Listable → Read
+callOn wanted weight kind l = record { wanted = wanted; weight = weight; gaps = lists (l .left) (l .right) (l .distance) kind }
 
 -- ---- the listing of a call on such a sheet, lent the places that the call wrote
 
-module _ (wanted weight : List ℤ) (l : Listable) {w after : Written} (promise : Promise (callOn wanted weight l) w Placed after)
+module _ (wanted weight : List ℤ) (kind : List ℕ) (l : Listable) {w after : Written} (promise : Promise (callOn wanted weight kind l) w Placed after)
     (enough : length wanted ≤ labelsIn l) (same : (i : ℕ) → i < length wanted → placeIn l i ≡ placeOf after (label i)) where
-  accepted : Accepted (sheetOf (callOn wanted weight l)) w after
+  accepted : Accepted (sheetOf (callOn wanted weight kind l)) w after
   accepted = placed-accepted promise refl
 
-  proper : Proper (sheetOf (callOn wanted weight l))
+  proper : Proper (sheetOf (callOn wanted weight kind l))
   proper = placed-proper promise refl
 
-  pub listed-slack : (e : GapNumber) → e .0 < gapsIn l → printedSlack l (e .0) ≡ slackOf (placeOf after) (sheetOf (callOn wanted weight l) .gap e)
+  pub listed-slack : (e : GapNumber) → e .0 < gapsIn l → printedSlack l (e .0) ≡ slackOf (placeOf after) (sheetOf (callOn wanted weight kind l) .gap e)
   unfolding sheetOf
   listed-slack e h =
       let u : ℕ = nat (l .left) (e .0) in
@@ -64,7 +64,7 @@ module _ (wanted weight : List ℤ) (l : Listable) {w after : Written} (promise 
       let g : ℤ = int (l .distance) (e .0) in
       let left-in : u < length wanted = proper .left-in e h in
       let right-in : v < length wanted = proper .right-in e h in
-      let passed : Passed (callOn wanted weight l) w = table-passed (callOn wanted weight l) w (placed-passes promise refl) in
+      let passed : Passed (callOn wanted weight kind l) w = table-passed (callOn wanted weight kind l) w (placed-passes promise refl) in
       sym (slack-given l (e .0) (omega arith) (omega arith))
       ∙ ap₂ (λ (p q : Fraction). slackGiven (slackAnswer p q g)) (same u left-in) (same v right-in)
       ∙ ap slackGiven
@@ -74,16 +74,23 @@ module _ (wanted weight : List ℤ) (l : Listable) {w after : Written} (promise 
   -- an accepted sheet has no broken gap, so none is printed below zero
   pub listed-held : (e : GapNumber) → e .0 < gapsIn l → pos 0 ≤ℤ printedSlack l (e .0) .num
   unfolding sheetOf
-  listed-held e h = rw (listed-slack e h) (held-slack (accepted .least .feasible) e h refl)
+  listed-held e h =
+      let passed : Passed (callOn wanted weight kind l) w = table-passed (callOn wanted weight kind l) w (placed-passes promise refl) in
+      rw (listed-slack e h) (held-slack (accepted .least .feasible) e h (asks (nat kind (e .0)) (passed .kinded (e .0) h)))
 
   -- a tight gap is printed with 0/1
-  pub listed-tight : (e : GapNumber) → e .0 < gapsIn l → Tight (placeOf after) (sheetOf (callOn wanted weight l) .gap e) → printedSlack l (e .0) ≡ whole (pos 0)
+  pub listed-tight : (e : GapNumber) → e .0 < gapsIn l → Tight (placeOf after) (sheetOf (callOn wanted weight kind l) .gap e) → printedSlack l (e .0) ≡ whole (pos 0)
   unfolding sheetOf
   listed-tight e h tight =
       let fractions = accepted .least .feasible .fractions in
       listed-slack e h
-      ∙ tight-slack (placeOf after) (sheetOf (callOn wanted weight l) .gap e)
+      ∙ tight-slack (placeOf after) (sheetOf (callOn wanted weight kind l) .gap e)
       (fractions (label (nat (l .left) (e .0))) (proper .left-in e h)) (fractions (label (nat (l .right) (e .0))) (proper .right-in e h)) tight
+
+  -- so is an exact one
+  pub listed-exact : (e : GapNumber) → e .0 < gapsIn l → sheetOf (callOn wanted weight kind l) .gap e .kind ≡ exactly → printedSlack l (e .0) ≡ whole (pos 0)
+  unfolding sheetOf
+  listed-exact e h exact = listed-slack e h ∙ exact-slack proper (accepted .least .feasible) e h exact
 
   -- so is a marked one
   pub listed-marked : (e : GapNumber) → e .0 < gapsIn l → markOf after e ≡ true → printedSlack l (e .0) ≡ whole (pos 0)
@@ -98,9 +105,9 @@ module _ (wanted weight : List ℤ) (l : Listable) {w after : Written} (promise 
 -- ---- a run
 
 -- the first of the tests of room is clear
-first-clear : (a b c d e : Bool) → (a || b || c || d || e) ≡ false → a ≡ false
-first-clear true b c d e h = h
-first-clear false b c d e h = refl
+first-clear : (a b c d e f : Bool) → (a || b || c || d || e || f) ≡ false → a ≡ false
+first-clear true b c d e f h = h
+first-clear false b c d e f h = refl
 
 module _ (c : Counts) (l : Lists) {w after : Written} (promise : Promise (sheetRead c l) w Placed after) where
   -- a place is listed for each label
@@ -108,7 +115,7 @@ module _ (c : Counts) (l : Lists) {w after : Written} (promise : Promise (sheetR
   unfolding sheetOf
   enough-read =
       let passed : Passed (sheetRead c l) w = table-passed (sheetRead c l) w (placed-passes promise refl) in
-      let room : labelCount (sheetRead c l) ≤ length (w .place-num) = ltb-false (length (w .place-num)) (labelCount (sheetRead c l)) (first-clear _ _ _ _ _ (passed .room)) in
+      let room : labelCount (sheetRead c l) ≤ length (w .place-num) = ltb-false (length (w .place-num)) (labelCount (sheetRead c l)) (first-clear _ _ _ _ _ _ (passed .room)) in
       rw (length-take (c .labels) (after .place-num))
       (le-min (take-most (c .labels) (l .wanted)) (omega (arith, placed-accepted promise refl .place-nums .size)))
 
@@ -119,16 +126,19 @@ module _ (c : Counts) (l : Lists) {w after : Written} (promise : Promise (sheetR
       rw (getD-take (c .labels) (after .place-num) i (pos 0) below, getD-take (c .labels) (after .place-den) i (pos 0) below)
 
   pub printed-slack : (e : GapNumber) → e .0 < gapCount (sheetRead c l) → printedSlack (listableRead c l after) (e .0) ≡ slackOf (placeOf after) (sheetOf (sheetRead c l) .gap e)
-  printed-slack = listed-slack (take (c .labels) (l .wanted)) (take (c .labels) (l .weight)) (listableRead c l after) promise enough-read same-read
+  printed-slack = listed-slack (take (c .labels) (l .wanted)) (take (c .labels) (l .weight)) (take (c .gaps) (l .kind)) (listableRead c l after) promise enough-read same-read
 
   pub printed-held : (e : GapNumber) → e .0 < gapCount (sheetRead c l) → pos 0 ≤ℤ printedSlack (listableRead c l after) (e .0) .num
-  printed-held = listed-held (take (c .labels) (l .wanted)) (take (c .labels) (l .weight)) (listableRead c l after) promise enough-read same-read
+  printed-held = listed-held (take (c .labels) (l .wanted)) (take (c .labels) (l .weight)) (take (c .gaps) (l .kind)) (listableRead c l after) promise enough-read same-read
 
   pub printed-tight : (e : GapNumber) → e .0 < gapCount (sheetRead c l) → Tight (placeOf after) (sheetOf (sheetRead c l) .gap e) → printedSlack (listableRead c l after) (e .0) ≡ whole (pos 0)
-  printed-tight = listed-tight (take (c .labels) (l .wanted)) (take (c .labels) (l .weight)) (listableRead c l after) promise enough-read same-read
+  printed-tight = listed-tight (take (c .labels) (l .wanted)) (take (c .labels) (l .weight)) (take (c .gaps) (l .kind)) (listableRead c l after) promise enough-read same-read
+
+  pub printed-exact : (e : GapNumber) → e .0 < gapCount (sheetRead c l) → sheetOf (sheetRead c l) .gap e .kind ≡ exactly → printedSlack (listableRead c l after) (e .0) ≡ whole (pos 0)
+  printed-exact = listed-exact (take (c .labels) (l .wanted)) (take (c .labels) (l .weight)) (take (c .gaps) (l .kind)) (listableRead c l after) promise enough-read same-read
 
   pub printed-marked : (e : GapNumber) → e .0 < gapCount (sheetRead c l) → markOf after e ≡ true → printedSlack (listableRead c l after) (e .0) ≡ whole (pos 0)
-  printed-marked = listed-marked (take (c .labels) (l .wanted)) (take (c .labels) (l .weight)) (listableRead c l after) promise enough-read same-read
+  printed-marked = listed-marked (take (c .labels) (l .wanted)) (take (c .labels) (l .weight)) (take (c .gaps) (l .kind)) (listableRead c l after) promise enough-read same-read
 
   pub printed-loaded : (e : GapNumber) → e .0 < gapCount (sheetRead c l) → ¬ (multiplierOf after e ≃ whole (pos 0)) → printedSlack (listableRead c l after) (e .0) ≡ whole (pos 0)
-  printed-loaded = listed-loaded (take (c .labels) (l .wanted)) (take (c .labels) (l .weight)) (listableRead c l after) promise enough-read same-read
+  printed-loaded = listed-loaded (take (c .labels) (l .wanted)) (take (c .labels) (l .weight)) (take (c .gaps) (l .kind)) (listableRead c l after) promise enough-read same-read

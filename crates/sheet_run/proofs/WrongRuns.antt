@@ -1,5 +1,6 @@
--- Wrong runs of document 01's text, of document 02's mixed sheet (Item 3), of its labels that cross (Item 4), of a text with
--- a weight of zero and of one that is refused: what the promise of a run says against each. Nothing cites them.
+-- Wrong runs of document 01's text, of document 02's mixed sheet (Item 3), of its labels that cross (Item 4), of labels joined
+-- rigidly (Item 6), of a text with a weight of zero and of one that is refused: what the promise of a run says against each.
+-- Nothing cites them.
 use Prim.Native.Nat.{ℕ}
 use mathlib.Core.Path.{_≡_, refl, sym, ap, _∙_}
 use mathlib.Core.List.{List, [], _∷_, _++_}
@@ -14,13 +15,13 @@ use Rattle.text_rows.specs.Numeral.{digitsOf}
 use Rattle.text_rows.specs.Bytes.{bytes}
 use Rattle.text_rows.specs.Taking.{noField}
 use Rattle.text_reading.specs.Texts.{countsOf, filled, reading, roomFor}
-use Rattle.text_reading.proofs.Examples.{document-text, mixed-text, crossing-text}
+use Rattle.text_reading.proofs.Examples.{document-text, mixed-text, crossing-text, pair-text}
 use Rattle.text_reading.proofs.WrongReadings.{zero-text, zero-sheet, zero-typed}
 use Rattle.text_listing.specs.Listing.{listing, placeRecord, placeRecords, refusedRecord}
 use Rattle.text_listing.proofs.Samples.{first-record, second-record, slack-record}
 use Rattle.sheet_run.specs.Run.{LaidOut, Run, zeroLists, listableRead}
 use Rattle.sheet_run.proofs.PlacedRuns.{laid-out}
-use Rattle.sheet_run.proofs.Document.{document-prints, mixed-prints, crossing-prints}
+use Rattle.sheet_run.proofs.Document.{document-prints, mixed-prints, crossing-prints, pair-prints}
 use Rattle.sheet_run.proofs.RefusedRuns.{blank-prints}
 
 -- the listing is written, and no byte of it is told
@@ -72,6 +73,14 @@ pub crossing-away :
     take n after ≡ bytes "place,0,1,2,1\r\nplace,1,-1,2,-1\r\nslack,0,0,1\r\n" → ⊥
 crossing-away r away =
     let unit : _≡_ {A = ℕ} 45 48 = ap (λ (l : List ℕ). getD l 28 0) (sym away ∙ crossing-prints r) in
+    omega arith
+
+-- the word same asks for at least the distance: both labels would stay where they are wanted, 4 units too far apart
+pub same-as-gap :
+    {before after : List ℕ} {n : ℕ} → Run pair-text before n after →
+    take n after ≡ bytes "place,0,0,1,0\r\nplace,1,10,1,10\r\nslack,0,4,1\r\n" → ⊥
+same-as-gap r apart =
+    let place : _≡_ {A = ℕ} 48 50 = ap (λ (l : List ℕ). getD l 8 0) (sym apart ∙ pair-prints r) in
     omega arith
 
 -- a blank weight counts one: the places of document 02's mixed sheet would be -11/2 and 33/2

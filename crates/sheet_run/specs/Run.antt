@@ -1,4 +1,5 @@
--- What a run of the station prints for a text (document 01, "Sheet text"; document 02, Items 1, 4 and 5).
+-- What a run of the station prints for a text (document 01, "Sheet text"; document 02, Items 1 and 3 to 6). What it prints for
+-- the texts of the documents' examples, and for one with the word same, follows (proofs/Document).
 use Prim.Native.Nat.{ℕ, _≤_, _<_}
 use mathlib.Core.Path.{_≡_}
 use mathlib.Core.Bool.{true}
@@ -31,14 +32,21 @@ zeros n = replicate n (pos 0)
 
 -- the lists that a run reads into: zeros, with room for every sheet
 abbrev pub zeroLists : Lists
-zeroLists = record { wanted = zeros labelsMost; weight = zeros labelsMost; left = replicate gapsMost 0; right = replicate gapsMost 0; distance = zeros gapsMost }
+zeroLists = record {
+  wanted = zeros labelsMost;
+  weight = zeros labelsMost;
+  left = replicate gapsMost 0;
+  right = replicate gapsMost 0;
+  distance = zeros gapsMost;
+  kind = replicate gapsMost 0;
+}
 
 -- the sheet that was read: the first entries, one per label or gap
 abbrev pub sheetRead : Counts → Lists → Read
 sheetRead c l = record {
   wanted = take (c .labels) (l .wanted);
   weight = take (c .labels) (l .weight);
-  gaps = lists (take (c .gaps) (l .left)) (take (c .gaps) (l .right)) (take (c .gaps) (l .distance));
+  gaps = lists (take (c .gaps) (l .left)) (take (c .gaps) (l .right)) (take (c .gaps) (l .distance)) (take (c .gaps) (l .kind));
 }
 
 -- what a run lends to write: room for every sheet, over these for the places, and "a carried record of zeros"
@@ -49,6 +57,7 @@ lentOver c nums dens = record {
   mult-num = zeros gapsMost;
   mult-den = zeros gapsMost;
   ring = replicate labelsMost 0;
+  back = replicate labelsMost 0;
   carried = replicate (c .gaps) 0;
 }
 
@@ -67,8 +76,9 @@ listableRead c l after = record {
 
 -- the listing of what a layout call that keeps its promise answers, lent w to write;
 -- it "prints neither multipliers nor rings", and the field of a refused one is 0. For an accepted sheet the slack printed
--- for a gap is that of its places, and none is negative (`printed-slack`, `printed-held` in proofs/Slacks); of its whole
--- units `UnitsShown` holds (proofs/Units). Of a refused one `RefusedShown` holds (`sheet-refused` in proofs/RefusedRuns).
+-- for a gap of either kind is that of its places, none is negative, and that of an exact gap is 0/1 (`printed-slack`,
+-- `printed-held`, `printed-exact` in proofs/Slacks); of its whole units `UnitsShown` holds (proofs/Units). Of a refused one
+-- `RefusedShown` holds (`sheet-refused` in proofs/RefusedRuns).
 pub record LaidFrom (w : Written) (c : Counts) (l : Lists) (printed : List ℕ) : Type 0 where
   pub answer : Answer
   pub after : Written

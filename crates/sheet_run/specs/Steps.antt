@@ -23,6 +23,7 @@ pub record Holds (c : Counts) (l : Lists) : Type 0 where
   pub left : length (l .left) ≡ gapsMost
   pub right : length (l .right) ≡ gapsMost
   pub distance : length (l .distance) ≡ gapsMost
+  pub kind : length (l .kind) ≡ gapsMost
 
 -- an answer that keeps the promise, with the places afterwards
 pub record Answered (c : Counts) (l : Lists) (nums dens : List ℤ) (a : Answer) (nums-after dens-after : List ℤ) : Type 0 where

@@ -26,13 +26,14 @@ fn lay_out_read(
     left: &[usize],
     right: &[usize],
     distance: &[i64],
+    kind: &[u8],
     place_num: &mut [i64],
     place_den: &mut [i64],
 ) -> Answer
-    requires { let l = listsNow wanted weight left right distance in
+    requires { let l = listsNow wanted weight left right distance kind in
         ⌜ Holds counts l ⌝ }
     ensures { λ r.
-        let l = listsLent wanted weight left right distance in
+        let l = listsLent wanted weight left right distance kind in
         ⌜ Answered counts (l .entry) (before «place_num») (before «place_den») r (after «place_num») (after «place_den») ⌝ }
 {
     let labels = counts.labels;
@@ -41,18 +42,21 @@ fn lay_out_read(
     let mut mult_num = [0i64; GAPS];
     let mut mult_den = [0i64; GAPS];
     let mut ring = [0usize; LABELS];
+    let mut back = [0u8; LABELS];
     lay_out(
         &wanted[..labels],
         &weight[..labels],
         &left[..gaps],
         &right[..gaps],
         &distance[..gaps],
+        &kind[..gaps],
         &mut carried[..gaps],
         place_num,
         place_den,
         &mut mult_num,
         &mut mult_den,
         &mut ring,
+        &mut back,
     )
 }
 
@@ -97,11 +101,12 @@ fn print_read(
     left: &[usize],
     right: &[usize],
     distance: &[i64],
+    kind: &[u8],
     out: &mut [u8; LISTING_ROOM],
 ) -> usize
-    requires { ⌜ Holds counts (listsNow wanted weight left right distance) ⌝ }
+    requires { ⌜ Holds counts (listsNow wanted weight left right distance kind) ⌝ }
     ensures { λ r.
-        let l = listsLent wanted weight left right distance in
+        let l = listsLent wanted weight left right distance kind in
         ⌜ PrintedRead counts (l .entry) (before out) r (after out) ⌝ }
 {
     let labels = counts.labels;
@@ -115,6 +120,7 @@ fn print_read(
         left,
         right,
         distance,
+        kind,
         &mut place_num,
         &mut place_den,
     );
@@ -139,6 +145,7 @@ pub fn run_sheet(text: &[u8], out: &mut [u8; LISTING_ROOM]) -> usize
     let mut left = [0usize; GAPS];
     let mut right = [0usize; GAPS];
     let mut distance = [0i64; GAPS];
+    let mut kind = [0u8; GAPS];
     let found = read_sheet(
         text,
         &mut wanted,
@@ -146,6 +153,7 @@ pub fn run_sheet(text: &[u8], out: &mut [u8; LISTING_ROOM]) -> usize
         &mut left,
         &mut right,
         &mut distance,
+        &mut kind,
     );
     match found {
         Reading::Refused(refusal, field) => {
@@ -153,7 +161,16 @@ pub fn run_sheet(text: &[u8], out: &mut [u8; LISTING_ROOM]) -> usize
             print(answer, field, &[], &[], &[], &[], &[], out)
         }
         Reading::Sheet(counts) => {
-            print_read(counts, &wanted, &weight, &left, &right, &distance, out)
+            print_read(
+                counts,
+                &wanted,
+                &weight,
+                &left,
+                &right,
+                &distance,
+                &kind,
+                out,
+            )
         }
     }
 }

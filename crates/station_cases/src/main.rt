@@ -1,7 +1,7 @@
 // Prints the listings of many texts. Each has a line with its name in front and a byte 0, which no sheet has, behind;
 // stdout was worked out apart from this program.
-// Every refusal is there but 3 and 4, which no text can bring about (the lists of a run belong together and have
-// room), and 12, which belongs to single fractions.
+// Every refusal is there but 3, 4 and 23, which no text can bring about (the lists of a run belong together and have
+// room, and the words of a text name known kinds), and 12, which belongs to single fractions.
 use sheet_run::run_sheet;
 use text_listing::LISTING_ROOM;
 ghost use Prim.Native.Nat.{_≤_};

@@ -73,6 +73,23 @@ pub crossing-listed : listing Placed noField crossing-places ≡ crossing-listin
 unfolding placeRecords placeRecord slackRecords slackRecord printedSlack slackAnswer lowestOf euclid digitsOf unitOf rounded roundHalfUp withinPlaces
 crossing-listed = refl
 
+-- document 02, Item 6: wants 0 and 10, and an exact gap of 6
+abbrev pub pair-places : Listable
+pair-places = record {
+  place-num = pos 2 ∷ pos 8 ∷ [];
+  place-den = pos 1 ∷ pos 1 ∷ [];
+  left = 0 ∷ [];
+  right = 1 ∷ [];
+  distance = pos 6 ∷ [];
+}
+
+abbrev pub pair-listing : List ℕ
+pair-listing = bytes "place,0,2,1,2\r\nplace,1,8,1,8\r\nslack,0,0,1\r\n"
+
+pub pair-listed : listing Placed noField pair-places ≡ pair-listing
+unfolding placeRecords placeRecord slackRecords slackRecord printedSlack slackAnswer lowestOf euclid digitsOf unitOf rounded roundHalfUp withinPlaces
+pair-listed = refl
+
 -- the places for wants 0, 1, 40 and 41: two gaps are tight, and the third has 37 sixths to spare
 abbrev pub pairs : Listable
 pairs = record {

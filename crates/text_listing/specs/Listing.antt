@@ -27,7 +27,7 @@ use Rattle.ground.specs.Entries.{nat, int}
 use Rattle.ground.specs.Limits.{labelsMost, gapsMost}
 use Rattle.ground.specs.Views.{Param}
 
--- what a listing is made of: a place for each label, and the three lists of the gaps
+-- what a listing is made of: a place for each label, and of each gap what its slack depends on, which its kind is not
 pub record Listable : Type 0 where
   pub place-num : List ℤ
   pub place-den : List ℤ

@@ -66,6 +66,7 @@ held-none w s =
       left = holds-none gapsMost (w .left) (s .left);
       right = holds-none gapsMost (w .right) (s .right);
       distance = holds-none gapsMost (w .distance) (s .distance);
+      kind = holds-none gapsMost (w .kind) (s .kind);
     }
 
 pub held-stored : (t : Typed) (w : Lists) (row : Row) → Held t w → Held (add t row) (storedIn row (countsOf t) w)
@@ -76,6 +77,7 @@ held-stored t w (Label r) h =
       left = h .left;
       right = h .right;
       distance = h .distance;
+      kind = h .kind;
     }
 held-stored t w (Gap g) h =
     record {
@@ -84,6 +86,7 @@ held-stored t w (Gap g) h =
       left = holds-mapped (λ e. e .left) (t .gaps) g (h .left);
       right = holds-mapped (λ e. e .right) (t .gaps) g (h .right);
       distance = holds-mapped (λ e. e .distance) (t .gaps) g (h .distance);
+      kind = holds-mapped (λ e. e .kind) (t .gaps) g (h .kind);
     }
 
 pub counted-add : (t : Typed) (row : Row) → countedWith row (countsOf t) ≡ countsOf (add t row)
@@ -98,4 +101,5 @@ sizes-held t w h = record {
   left = h .left .size;
   right = h .right .size;
   distance = h .distance .size;
+  kind = h .kind .size;
 }

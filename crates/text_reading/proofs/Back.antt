@@ -1,4 +1,4 @@
--- Reading back: the text written for a sheet within the limits is read as that sheet.
+-- Reading back: the text written for a sheet within the limits, with gaps of both kinds, is read as that sheet.
 use Prim.Native.Nat.{ℕ, suc, _+_, _*_, _≤_, _<_, _^_}
 use mathlib.Core.Path.{_≡_, _∙_}
 use mathlib.Core.Bool.{true}
@@ -99,6 +99,7 @@ module _ (t : Typed) (lim : InLimits t) where
         left = omega (arith, lim .left k h, lim .labels);
         right = omega (arith, lim .right k h, lim .labels);
         distance = omega (arith, lim .distance k h);
+        kind = lim .kind k h;
       }
 
   -- 240 records at most

@@ -36,11 +36,11 @@ pub field-told : (text : List ℕ) (b : Lists) → FieldTold (numberOf (reading 
 field-told text b =
     reading-cases DoneTold b
     (record {
-      long = no-field 11 (omega arith);
-      crowded = no-field 1 (omega arith);
-      over-gapped = no-field 2 (omega arith);
-      short-room = no-field 4 (omega arith);
+      long = no-field 11 (omega arith) (omega arith);
+      crowded = no-field 1 (omega arith) (omega arith);
+      over-gapped = no-field 2 (omega arith) (omega arith);
+      short-room = no-field 4 (omega arith) (omega arith);
     })
     text
     (λ short n number field e. subst LineTold e (line-told (lines text) 1 nothingTyped))
-    (λ t few gaps. no-field 0 (omega arith))
+    (λ t read few gaps. no-field 0 (omega arith) (omega arith))

@@ -5,5 +5,6 @@ pub mod Records
 pub mod Back
 pub mod ReadingCases
 pub mod FieldsTold
+pub mod KnownKinds
 pub mod Examples
 pub mod WrongReadings

@@ -23,7 +23,13 @@ pub each-at :
 each-at P d [] h = tt
 each-at P d (x ∷ xs) h = (h 0 (omega arith), each-at P d xs (λ k l. h (suc k) (omega arith)))
 
-pub each-append : (P : ℕ → Type 0) (xs ys : List ℕ) → Each P xs → Each P ys → Each P (xs ++ ys)
+-- past its end too, if it holds of what stands there
+pub each-entry : {A : Type 0} (P : A → Type 0) (d : A) (xs : List A) → Each P xs → P d → (k : ℕ) → P (getD xs k d)
+each-entry P d [] h past k = past
+each-entry P d (x ∷ xs) h past zero = h .0
+each-entry P d (x ∷ xs) h past (suc k) = each-entry P d xs (h .1) past k
+
+pub each-append : {A : Type 0} (P : A → Type 0) (xs ys : List A) → Each P xs → Each P ys → Each P (xs ++ ys)
 each-append P [] ys h k = k
 each-append P (x ∷ xs) ys h k = (h .0, each-append P xs ys (h .1) k)
 

@@ -5,7 +5,7 @@ use native.Mathlib.Numerals.{add-one}
 use mathlib.Core.Path.{_≡_, refl, sym, ap, subst, _∙_}
 use mathlib.Core.Bool.{Bool, true, false, cond, _&&_, true≢false}
 use mathlib.Core.List.{List, [], map}
-use borrow.Author.Tests.{lt-ltb, le-ltb, ltb-false, leb-true}
+use borrow.Author.Tests.{lt-ltb, le-ltb, le-leb, ltb-false, leb-true}
 use lib.Dec.{ltb, leb}
 use lib.IntN.{ℤ}
 use lib.ListN.{length, take, drop, drop-of-length-le, length-map}
@@ -19,6 +19,7 @@ use Rattle.text_rows.specs.declared.Taken.the-variants.{Good, Bad}
 use Rattle.text_reading.specs.declared.Counts.{Counts}
 use Rattle.text_reading.specs.declared.Reading.{Reading}
 use Rattle.text_reading.specs.declared.Reading.the-variants.{Sheet, Refused}
+use Rattle.text_reading.specs.declared.read.Room.{Room}
 use Rattle.text_rows.specs.declared.lines.Cursor.{Cursor}
 use Rattle.text_rows.specs.declared.lines.Line.{Line}
 use Rattle.text_rows.specs.Lines.{lines}
@@ -122,9 +123,9 @@ reached-end {text} {from} {c} {w} p h =
     subst (λ (o : Outcome). ScannedBy o (Sheet c) w) (sym ended) (ap Sheet (p .counts), p .held)
 
 pub same-lists :
-    {x y : Lists} → x .wanted ≡ y .wanted → x .weight ≡ y .weight → x .left ≡ y .left → x .right ≡ y .right → x
-    .distance ≡ y .distance → x ≡ y
-same-lists p q r s t i = record { wanted = p i; weight = q i; left = r i; right = s i; distance = t i }
+    {x y : Lists} → x .wanted ≡ y .wanted → x .weight ≡ y .weight → x .left ≡ y .left → x .right ≡ y .right
+    → x .distance ≡ y .distance → x .kind ≡ y .kind → x ≡ y
+same-lists p q r s t u i = record { wanted = p i; weight = q i; left = r i; right = s i; distance = t i; kind = u i }
 
 full :
     {A B : Type 0} (f : A → B) (xs : List A) {room : ℕ} {a : List B} (b : List B) → Holds room a (map f xs) → length
@@ -142,6 +143,7 @@ held-full t w b h labels gaps =
     (full (λ g. g .left) (t .gaps) (b .left) (h .left) gaps)
     (full (λ g. g .right) (t .gaps) (b .right) (h .right) gaps)
     (full (λ g. g .distance) (t .gaps) (b .distance) (h .distance) gaps)
+    (full (λ g. g .kind) (t .gaps) (b .kind) (h .kind) gaps)
 
 -- 1, 2 and 4 by the counts are those of the text, and what is handed over fills the lists
 pub handed : (t : Typed) (w b : Lists) → Held t w → answered (judgedBy (countsOf t) (roomOf b)) w b ≡ settled t b
@@ -201,68 +203,98 @@ pub stored-label :
     (row : Row) (l : LabelRow) (c : Counts) (w : Lists) (wanted weight : List ℤ) → row ≡ Label l → wanted ≡ stored
     labelsMost (c .labels) (l .wanted) (w .wanted) → weight ≡ stored labelsMost (c .labels) (l .weight) (w .weight)
     → Stored row c w (record { labels = c .labels + 1; gaps = c .gaps })
-    (record { wanted = wanted; weight = weight; left = w .left; right = w .right; distance = w .distance })
+    (record { wanted = wanted; weight = weight; left = w .left; right = w .right; distance = w .distance; kind = w .kind })
 stored-label row l c w wanted weight e p q = rw (e, p, q) (record { counted = refl; arrays = refl })
 
 pub stored-gap :
-    (row : Row) (g : GapRecord) (c : Counts) (w : Lists) (left right : List ℕ) (distance : List ℤ) → row ≡ Gap g
+    (row : Row) (g : GapRecord) (c : Counts) (w : Lists) (left right : List ℕ) (distance : List ℤ) (kind : List ℕ) → row ≡ Gap g
     → left ≡ stored gapsMost (c .gaps) (g .left) (w .left) → right ≡ stored gapsMost (c .gaps) (g .right) (w .right)
-    → distance ≡ stored gapsMost (c .gaps) (g .distance) (w .distance) → Stored row c w
-    (record { labels = c .labels; gaps = c .gaps + 1 })
-    (record { wanted = w .wanted; weight = w .weight; left = left; right = right; distance = distance })
-stored-gap row g c w left right distance e p q r = rw (e, p, q, r) (record { counted = refl; arrays = refl })
+    → distance ≡ stored gapsMost (c .gaps) (g .distance) (w .distance) → kind ≡ stored gapsMost (c .gaps) (g .kind) (w .kind)
+    → Stored row c w (record { labels = c .labels; gaps = c .gaps + 1 })
+    (record { wanted = w .wanted; weight = w .weight; left = left; right = right; distance = distance; kind = kind })
+stored-gap row g c w left right distance kind e p q r s = rw (e, p, q, r, s) (record { counted = refl; arrays = refl })
 
 -- counts that pass 1, 2 and 4
-pub record Fitting (c : Counts) (b : Lists) : Type 0 where
+pub record Fitting (c : Counts) (room : Room) : Type 0 where
   pub labels : c .labels ≤ labelsMost
   pub gaps : c .gaps ≤ gapsMost
-  pub wanted : c .labels ≤ length (b .wanted)
-  pub weight : c .labels ≤ length (b .weight)
-  pub left : c .gaps ≤ length (b .left)
-  pub right : c .gaps ≤ length (b .right)
-  pub distance : c .gaps ≤ length (b .distance)
+  pub wanted : c .labels ≤ room .wanted
+  pub weight : c .labels ≤ room .weight
+  pub left : c .gaps ≤ room .left
+  pub right : c .gaps ≤ room .right
+  pub distance : c .gaps ≤ room .distance
+  pub kind : c .gaps ≤ room .kind
 
--- a test of five parts that passes
-five :
-    (p q r s t : Bool) → (p && q && r && s && t) ≡ true → (p ≡ true) × (q ≡ true) × (r ≡ true) × (s ≡ true)
-    × (t ≡ true)
-five true true true true true h = (refl, refl, refl, refl, refl)
-five true true true true false h = absurd (true≢false (sym h))
-five true true true false t h = absurd (true≢false (sym h))
-five true true false s t h = absurd (true≢false (sym h))
-five true false r s t h = absurd (true≢false (sym h))
-five false q r s t h = absurd (true≢false (sym h))
+-- a test of six parts that passes
+six :
+    (p q r s t u : Bool) → (p && q && r && s && t && u) ≡ true → (p ≡ true) × (q ≡ true) × (r ≡ true) × (s ≡ true)
+    × (t ≡ true) × (u ≡ true)
+six true true true true true true h = (refl, refl, refl, refl, refl, refl)
+six true true true true true false h = absurd (true≢false (sym h))
+six true true true true false u h = absurd (true≢false (sym h))
+six true true true false t u h = absurd (true≢false (sym h))
+six true true false s t u h = absurd (true≢false (sym h))
+six true false r s t u h = absurd (true≢false (sym h))
+six false q r s t u h = absurd (true≢false (sym h))
 
 never-sheet : (x : Refusal) (f : ℕ) (n : Counts) → Refused x f ≡ Sheet n → ⊥
 never-sheet x f n h = let z : _≡_ {A = ℕ} 0 1 = cc in omega arith
 
--- the answer is a sheet only if the counts pass
-fitting-counts : (c : Counts) (b : Lists) (n : Counts) → judgedBy c (roomOf b) ≡ Sheet n → Fitting n b
-unfolding judgedBy
-fitting-counts c b n =
-    split (ltb labelsMost (c .labels)) refl (ltb gapsMost (c .gaps)) refl (roomy c (roomOf b)) refl where
-      split :
-          (p : Bool) → ltb labelsMost (c .labels) ≡ p → (q : Bool) → ltb gapsMost (c .gaps) ≡ q → (r : Bool) → roomy c
-          (roomOf b) ≡ r → cond p (refusal 1 0 noField) (cond q (refusal 2 0 noField) (cond r (Sheet c) (refusal 4 0 noField))) ≡ Sheet n
-          → Fitting n b
-      split true e q g r f h = absurd (never-sheet _ _ n h)
-      split false e true g r f h = absurd (never-sheet _ _ n h)
-      split false e false g false f h = absurd (never-sheet _ _ n h)
-      split false e false g true f h =
-          let k : n ≡ c = cc in
-          let a = five (leb (c .labels) (length (b .wanted))) (leb (c .labels) (length (b .weight)))
-          (leb (c .gaps) (length (b .left))) (leb (c .gaps) (length (b .right))) (leb (c .gaps) (length (b .distance))) f
-          in
-          rw k
-          (record {
-            labels = ltb-false labelsMost _ e;
-            gaps = ltb-false gapsMost _ g;
-            wanted = leb-true _ _ (a .0);
-            weight = leb-true _ _ (a .1);
-            left = leb-true _ _ (a .2);
-            right = leb-true _ _ (a .3);
-            distance = leb-true _ _ (a .4);
-          })
+module _ (c : Counts) (room : Room) where
+  roomy-fitting : c .labels ≤ labelsMost → c .gaps ≤ gapsMost → roomy c room ≡ true → Fitting c room
+  roomy-fitting labels gaps e =
+      let a = six (leb (c .labels) (room .wanted)) (leb (c .labels) (room .weight)) (leb (c .gaps) (room .left))
+      (leb (c .gaps) (room .right)) (leb (c .gaps) (room .distance)) (leb (c .gaps) (room .kind)) e in
+      record {
+        labels = labels;
+        gaps = gaps;
+        wanted = leb-true _ _ (a .0);
+        weight = leb-true _ _ (a .1);
+        left = leb-true _ _ (a .2);
+        right = leb-true _ _ (a .3);
+        distance = leb-true _ _ (a .4);
+        kind = leb-true _ _ (a .5);
+      }
+
+  -- the answer is a sheet only if the counts pass
+  fitting-counts : (n : Counts) → judgedBy c room ≡ Sheet n → Fitting n room
+  unfolding judgedBy
+  fitting-counts n =
+      split (ltb labelsMost (c .labels)) refl (ltb gapsMost (c .gaps)) refl (roomy c room) refl where
+        split :
+            (p : Bool) → ltb labelsMost (c .labels) ≡ p → (q : Bool) → ltb gapsMost (c .gaps) ≡ q → (r : Bool) → roomy c
+            room ≡ r → cond p (refusal 1 0 noField) (cond q (refusal 2 0 noField) (cond r (Sheet c) (refusal 4 0 noField))) ≡ Sheet n
+            → Fitting n room
+        split true e q g r f h = absurd (never-sheet _ _ n h)
+        split false e true g r f h = absurd (never-sheet _ _ n h)
+        split false e false g false f h = absurd (never-sheet _ _ n h)
+        split false e false g true f h =
+            let k : n ≡ c = cc in rw k (roomy-fitting (ltb-false labelsMost _ e) (ltb-false gapsMost _ g) f)
+
+  -- it is one if they do
+  pub fitting-judged : Fitting c room → Sheet c ≡ judgedBy c room
+  unfolding judgedBy
+  fitting-judged f =
+      rw (
+        le-ltb labelsMost (c .labels) (f .labels),
+        le-ltb gapsMost (c .gaps) (f .gaps),
+        le-leb (c .labels) (room .wanted) (f .wanted),
+        le-leb (c .labels) (room .weight) (f .weight),
+        le-leb (c .gaps) (room .left) (f .left),
+        le-leb (c .gaps) (room .right) (f .right),
+        le-leb (c .gaps) (room .distance) (f .distance),
+        le-leb (c .gaps) (room .kind) (f .kind),
+      )
+
+  -- 4 where 1 and 2 are passed and a list is too short, whichever it is
+  pub short-judged : c .labels ≤ labelsMost → c .gaps ≤ gapsMost → (Fitting c room → ⊥) → refusal 4 0 noField ≡ judgedBy c room
+  unfolding judgedBy
+  short-judged labels gaps lacks =
+      rw (le-ltb labelsMost (c .labels) labels, le-ltb gapsMost (c .gaps) gaps) (go (roomy c room) refl)
+    where
+      go : (t : Bool) → roomy c room ≡ t → refusal 4 0 noField ≡ cond t (Sheet c) (refusal 4 0 noField)
+      go true e = absurd (lacks (roomy-fitting labels gaps e))
+      go false e = refl
 
 module _ (c : Counts) (b : Lists) (r : Reading) (j : r ≡ judgedBy c (roomOf b)) where
   pub handed-refused : (w : Lists) (x : Refusal) (f : ℕ) → r ≡ Refused x f → HandedOver c w b r b
@@ -272,8 +304,8 @@ module _ (c : Counts) (b : Lists) (r : Reading) (j : r ≡ judgedBy c (roomOf b)
       (w after : Lists) (n : Counts) → r ≡ Sheet n → after ≡ overAll n w b → HandedOver c w b (Sheet n) after
   handed-sheet w after n e o = rw (← j, e, o)
 
-  pub fitting : (n : Counts) → r ≡ Sheet n → Fitting n b
-  fitting n e = fitting-counts c b n (sym j ∙ e)
+  pub fitting : (n : Counts) → r ≡ Sheet n → Fitting n (roomOf b)
+  fitting n e = fitting-counts c (roomOf b) n (sym j ∙ e)
 
 -- the work arrays of a text without a bad line keep their sizes
 pub scanned-sizes :

@@ -35,14 +35,15 @@ module _ (P : Done → Type 0) (b : Lists) (whole : WholeText P b) where
   pub reading-cases :
       (text : List ℕ)
       → (length text ≤ textMost → (n number field : ℕ) → outcome text ≡ bad-line n number field → P (refusedWith number n field b))
-      → ((t : Typed) → length (t .labels) ≤ labelsMost → length (t .gaps) ≤ gapsMost → P (record { answer = Sheet (countsOf t); lists = filled t b }))
+      → ((t : Typed) → outcome text ≡ sheet t → length (t .labels) ≤ labelsMost → length (t .gaps) ≤ gapsMost
+      → P (record { answer = Sheet (countsOf t); lists = filled t b }))
       → P (reading text b)
   unfolding reading
   reading-cases text bad read = go (ltb textMost (length text)) refl
     where
       by : length text ≤ textMost → (o : Outcome) → outcome text ≡ o → P (judged o b)
       by short (bad-line n number field) e = bad short n number field e
-      by short (sheet t) e = settled-cases t (read t)
+      by short (sheet t) e = settled-cases t (read t e)
 
       go : (long : Bool) → ltb textMost (length text) ≡ long → P (cond long (refusedWith 11 0 noField b) (judged (outcome text) b))
       go true e = whole .long

@@ -1,5 +1,5 @@
 -- A record as it is written is one line, and its fields are those that were joined.
-use Prim.Native.Nat.{ℕ, _≤_, _<_, _^_}
+use Prim.Native.Nat.{ℕ, zero, suc, _≤_, _<_, _^_}
 use mathlib.Core.Path.{_≡_, refl, _∙_}
 use mathlib.Core.Logic.{_≢_}
 use mathlib.Core.List.{List, [], _∷_, _++_, append-assoc}
@@ -15,12 +15,14 @@ use Rattle.text_rows.specs.declared.Row.the-variants.{Label, Gap}
 use Rattle.text_rows.specs.declared.Taken.the-variants.{Good}
 use Rattle.text_rows.specs.Lines.{lineFeed, carriageReturn, comma, lines, fields, next, lineOf, recordOf}
 use Rattle.text_rows.specs.Numeral.{digitsMost, decimal, signedDecimal}
-use Rattle.text_rows.specs.Taking.{same, labelWord, gapWord, rowOf, taken}
+use Rattle.text_rows.specs.Taking.{sameBytes, labelWord, kindWord, gapRow, rowOf, taken}
 use Rattle.text_reading.specs.Printed.{labelRecord, gapRecord}
 use Rattle.text_rows.proofs.Decimal.{length-signed}
+use Rattle.text_rows.proofs.LineCases.{by-kind}
 use Rattle.text_reading.proofs.Numerals.{each-append, Digit, digits-only, NumeralByte, signed-bytes, number-back, signed-back, weight-back}
 use Rattle.ground.proofs.Each.{each-map}
 use Rattle.ground.specs.Entries.{Each}
+use Rattle.ground.specs.Kinds.{exactlyByte}
 
 -- ---- bytes that end neither a field nor a line
 
@@ -99,7 +101,7 @@ module _ {w a b c : List ℕ} (p : PlainFields w a b c) where
 
 -- ---- the records of labels and gaps
 
--- numbers of at most nine digits, the weight without a sign
+-- numbers of at most nine digits, the weight without a sign; a kind that has its own word
 pub record LabelFits (r : LabelRow) : Type 0 where
   pub wanted : natAbs (r .wanted) < 10 ^ digitsMost
   pub weight : natAbs (r .weight) < 10 ^ digitsMost
@@ -109,6 +111,7 @@ pub record GapFits (g : GapRecord) : Type 0 where
   pub left : g .left < 10 ^ digitsMost
   pub right : g .right < 10 ^ digitsMost
   pub distance : natAbs (g .distance) < 10 ^ digitsMost
+  pub kind : g .kind ≤ exactlyByte
 
 label-fields :
     (i : ℕ) (r : LabelRow) → PlainFields labelWord (decimal i) (signedDecimal (r .wanted)) (signedDecimal (r .weight))
@@ -120,9 +123,9 @@ label-fields i r = record {
 }
 
 gap-fields :
-    (g : GapRecord) → PlainFields gapWord (decimal (g .left)) (decimal (g .right)) (signedDecimal (g .distance))
+    (g : GapRecord) → PlainFields (kindWord (g .kind)) (decimal (g .left)) (decimal (g .right)) (signedDecimal (g .distance))
 gap-fields g = record {
-  word = omega arith;
+  word = by-kind (Each Plain) (omega arith) (omega arith) (g .kind);
   second = decimal-plain (g .left);
   third = decimal-plain (g .right);
   fourth = signed-plain (g .distance);
@@ -132,7 +135,7 @@ abbrev pub labelLine : ℕ → LabelRow → List ℕ
 labelLine i r = lineOf labelWord (decimal i) (signedDecimal (r .wanted)) (signedDecimal (r .weight))
 
 abbrev pub gapLine : GapRecord → List ℕ
-gapLine g = lineOf gapWord (decimal (g .left)) (decimal (g .right)) (signedDecimal (g .distance))
+gapLine g = lineOf (kindWord (g .kind)) (decimal (g .left)) (decimal (g .right)) (signedDecimal (g .distance))
 
 pub lines-label :
     (i : ℕ) (r : LabelRow) (rest : List ℕ) → lines (labelRecord i r ++ rest) ≡ labelLine i r ∷ lines rest
@@ -146,7 +149,7 @@ lines-gap g rest = lines-record (gap-fields g) rest
 -- the record of the next label is taken as that label
 pub taken-label :
     (i : ℕ) (r : LabelRow) → i < 10 ^ digitsMost → LabelFits r → taken (record { labels = i }) (labelLine i r) ≡ Good (Label r)
-unfolding rowOf same
+unfolding rowOf sameBytes
 taken-label i r h f =
     rw (
       line-fields (label-fields i r),
@@ -157,12 +160,20 @@ taken-label i r h f =
       eq-eqb i i refl,
     )
 
+-- four fields after the word of a kind are a gap of that kind
+row-kind :
+    (earlier : Earlier) (kind : ℕ) → kind ≤ exactlyByte → (a b c : List ℕ) → rowOf earlier (kindWord kind ∷ a ∷ b ∷ c ∷ []) ≡ gapRow kind a b c
+unfolding rowOf sameBytes
+row-kind earlier zero h a b c = refl
+row-kind earlier (suc zero) h a b c = refl
+row-kind earlier (suc (suc k)) h a b c = absurd (omega arith)
+
 -- a gap's record is taken as that gap, whatever came before
 pub taken-gap : (earlier : Earlier) (g : GapRecord) → GapFits g → taken earlier (gapLine g) ≡ Good (Gap g)
-unfolding rowOf same
 taken-gap earlier g f =
     rw (
       line-fields (gap-fields g),
+      row-kind earlier (g .kind) (f .kind),
       number-back (g .left) (f .left),
       number-back (g .right) (f .right),
       signed-back (g
@@ -184,6 +195,7 @@ label-most i r h f =
 pub gap-most : (g : GapRecord) → GapFits g → length (gapRecord g) ≤ 40
 unfolding gapRecord
 gap-most g f =
-    record-most gapWord (decimal (g .left)) (decimal (g .right)) (signedDecimal (g .distance)) (omega arith)
+    record-most (kindWord (g .kind)) (decimal (g .left)) (decimal (g .right)) (signedDecimal (g .distance))
+    (by-kind (λ w. length w ≤ 5) (omega arith) (omega arith) (g .kind))
     (length-signed 8 (pos (g .left)) (f .left)) (length-signed 8 (pos (g .right)) (f .right))
     (length-signed 8 (g .distance) (f .distance))

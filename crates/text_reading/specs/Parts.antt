@@ -33,6 +33,7 @@ storedIn (Label r) c w = record {
   left = w .left;
   right = w .right;
   distance = w .distance;
+  kind = w .kind;
 }
 storedIn (Gap g) c w = record {
   wanted = w .wanted;
@@ -40,6 +41,7 @@ storedIn (Gap g) c w = record {
   left = stored gapsMost (c .gaps) (g .left) (w .left);
   right = stored gapsMost (c .gaps) (g .right) (w .right);
   distance = stored gapsMost (c .gaps) (g .distance) (w .distance);
+  kind = stored gapsMost (c .gaps) (g .kind) (w .kind);
 }
 
 -- the promise of the storing
@@ -59,6 +61,7 @@ pub record WorkArrays (w : Lists) : Type 0 where
   pub left : length (w .left) ≡ gapsMost
   pub right : length (w .right) ≡ gapsMost
   pub distance : length (w .distance) ≡ gapsMost
+  pub kind : length (w .kind) ≡ gapsMost
 
 -- the work arrays hold the labels and gaps
 pub record Held (t : Typed) (w : Lists) : Type 0 where
@@ -67,6 +70,7 @@ pub record Held (t : Typed) (w : Lists) : Type 0 where
   pub left : Holds gapsMost (w .left) (map (λ g. g .left) (t .gaps))
   pub right : Holds gapsMost (w .right) (map (λ g. g .right) (t .gaps))
   pub distance : Holds gapsMost (w .distance) (map (λ g. g .distance) (t .gaps))
+  pub kind : Holds gapsMost (w .kind) (map (λ g. g .kind) (t .gaps))
 
 -- the answer of the loop over the lines
 abbrev pub ScannedBy : Outcome → Reading → Lists → Type 0
@@ -81,6 +85,7 @@ roomy c room =
     && leb (c .gaps) (room .left)
     && leb (c .gaps) (room .right)
     && leb (c .gaps) (room .distance)
+    && leb (c .gaps) (room .kind)
 
 -- 1, 2, then 4, by the counts
 unfoldable pub judgedBy : Counts → Room → Reading
@@ -97,6 +102,7 @@ roomOf b = record {
   left = length (b .left);
   right = length (b .right);
   distance = length (b .distance);
+  kind = length (b .kind);
 }
 
 -- the first entries of each work array over the front of its lent list
@@ -107,6 +113,7 @@ overAll c w b = record {
   left = over (c .gaps) (w .left) (b .left);
   right = over (c .gaps) (w .right) (b .right);
   distance = over (c .gaps) (w .distance) (b .distance);
+  kind = over (c .gaps) (w .kind) (b .kind);
 }
 
 -- an answer with the lists afterwards: a refusal leaves them

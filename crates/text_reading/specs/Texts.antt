@@ -1,4 +1,4 @@
--- A text read into lent lists (document 01, "Sheet text" and "Refusal table"; document 02, Item 5).
+-- A text read into lent lists (document 01, "Sheet text" and "Refusal table"; document 02, Items 5 and 6).
 use Prim.Native.Nat.{ℕ, suc}
 use mathlib.Core.Bool.{Bool, cond, _&&_}
 use mathlib.Core.List.{List, [], _∷_, _++_, map}
@@ -23,7 +23,8 @@ use denote.Triple.Both.{Both}
 use Rattle.ground.specs.Views.{Param}
 use denote.Ref.{RefT, now}
 
--- the labels and the gaps of a text, each in the order of their records; "a gap may come before the labels it names"
+-- the labels and the gaps of a text, each in the order of their records; "a gap may come before the labels it names". Gaps
+-- of both kinds have one numbering
 pub record Typed : Type 0 where
   pub labels : List LabelRow
   pub gaps : List GapRecord
@@ -58,13 +59,14 @@ readFrom (l ∷ ls) n t = follow (taken (earlierOf t) l) n t (readFrom ls (suc n
 abbrev pub outcome : List ℕ → Outcome
 outcome text = readFrom (lines text) 1 nothingTyped
 
--- the lists that are lent
+-- the lists that are lent; "The plain lists gain one of kinds"
 pub record Lists : Type 0 where
   pub wanted : List ℤ
   pub weight : List ℤ
   pub left : List ℕ
   pub right : List ℕ
   pub distance : List ℤ
+  pub kind : List ℕ
 
 -- "writes their first entries only, one per label or gap"
 abbrev pub front : {A : Type 0} → List A → List A → List A
@@ -77,6 +79,7 @@ filled t b = record {
   left = front (map (λ g. g .left) (t .gaps)) (b .left);
   right = front (map (λ g. g .right) (t .gaps)) (b .right);
   distance = front (map (λ g. g .distance) (t .gaps)) (b .distance);
+  kind = front (map (λ g. g .kind) (t .gaps)) (b .kind);
 }
 
 -- what is not met by "4 after 1 and 2 if a list is too short"
@@ -87,6 +90,7 @@ roomFor t b =
     && leb (length (t .gaps)) (length (b .left))
     && leb (length (t .gaps)) (length (b .right))
     && leb (length (t .gaps)) (length (b .distance))
+    && leb (length (t .gaps)) (length (b .kind))
 
 -- an answer with the lists afterwards
 pub record Done : Type 0 where
@@ -124,18 +128,19 @@ reading text b = cond (ltb textMost (length text)) (refusedWith 11 0 noField b) 
 -- ---- the lent lists: as a `requires` sees them, and at entry and exit as an `ensures` does
 
 abbrev pub listsNow :
-    (wanted weight : RefT (List ℤ)) (left right : RefT (List ℕ)) (distance : RefT (List ℤ)) → Lists
-listsNow wanted weight left right distance = record {
+    (wanted weight : RefT (List ℤ)) (left right : RefT (List ℕ)) (distance : RefT (List ℤ)) (kind : RefT (List ℕ)) → Lists
+listsNow wanted weight left right distance kind = record {
   wanted = now wanted;
   weight = now weight;
   left = now left;
   right = now right;
   distance = now distance;
+  kind = now kind;
 }
 
 abbrev pub listsLent :
-    (wanted weight : Param ℤ) (left right : Param ℕ) (distance : Param ℤ) → Both Lists Lists
-listsLent wanted weight left right distance = record {
-  entry = listsNow (wanted .entry) (weight .entry) (left .entry) (right .entry) (distance .entry);
-  exit = listsNow (wanted .exit) (weight .exit) (left .exit) (right .exit) (distance .exit);
+    (wanted weight : Param ℤ) (left right : Param ℕ) (distance : Param ℤ) (kind : Param ℕ) → Both Lists Lists
+listsLent wanted weight left right distance kind = record {
+  entry = listsNow (wanted .entry) (weight .entry) (left .entry) (right .entry) (distance .entry) (kind .entry);
+  exit = listsNow (wanted .exit) (weight .exit) (left .exit) (right .exit) (distance .exit) (kind .exit);
 }

@@ -1,4 +1,4 @@
-// A text read into lent lists.
+// A text of the words label, gap and same, read into lent lists.
 use ground::Refusal;
 
 pub mod read;

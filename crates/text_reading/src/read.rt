@@ -4,9 +4,11 @@ use crate::Reading;
 use crate::TEXT_MOST;
 use crate::store::store;
 use ground::Refusal;
+use ground::copies::copy_bytes;
 use ground::copies::copy_indices;
 use ground::copies::copy_ints;
 use ground::limits::GAPS;
+use ground::limits::GapBytes;
 use ground::limits::GapIndices;
 use ground::limits::GapInts;
 use ground::limits::LABELS;
@@ -32,6 +34,7 @@ pub(crate) struct Room {
     pub left: usize,
     pub right: usize,
     pub distance: usize,
+    pub kind: usize,
 }
 
 // A refusal and its bad field; with a text there is no ring.
@@ -54,12 +57,13 @@ fn read_lines(
     left: &mut GapIndices,
     right: &mut GapIndices,
     distance: &mut GapInts,
+    kind: &mut GapBytes,
 ) -> Reading
-    requires { let l = listsNow wanted weight left right distance in
+    requires { let l = listsNow wanted weight left right distance kind in
         ⌜ (length (now text) ≤ textMost)
         × WorkArrays l ⌝ }
     ensures { λ r.
-        let l = listsLent wanted weight left right distance in
+        let l = listsLent wanted weight left right distance kind in
         ⌜ ScannedBy (outcome (before text)) r (l .exit) ⌝ }
 {
     let mut counts = Counts { labels: 0, gaps: 0 };
@@ -75,7 +79,7 @@ fn read_lines(
         let Taken::Good(row) = taken else {
             return refused(taken.number(), from.line, taken.field());
         };
-        counts = store(row, counts, wanted, weight, left, right, distance);
+        counts = store(row, counts, wanted, weight, left, right, distance, kind);
         from = found.next;
     }
     Reading::Sheet(counts)
@@ -108,10 +112,13 @@ fn judge(counts: Counts, room: Room) -> Reading
     if room.distance < gaps {
         return refused(4, 0, NO_FIELD);
     }
+    if room.kind < gaps {
+        return refused(4, 0, NO_FIELD);
+    }
     Reading::Sheet(counts)
 }
 
-// Writes the first entries of the lent lists from the work arrays d, w, u, v and g, unless the text is refused.
+// Writes the first entries of the lent lists from the work arrays d, w, u, v, g and k, unless the text is refused.
 fn hand_over(
     counts: Counts,
     d: &[i64],
@@ -119,16 +126,18 @@ fn hand_over(
     u: &[usize],
     v: &[usize],
     g: &[i64],
+    k: &[u8],
     wanted: &mut [i64],
     weight: &mut [i64],
     left: &mut [usize],
     right: &mut [usize],
     distance: &mut [i64],
+    kind: &mut [u8],
 ) -> Reading
-    requires { ⌜ WorkArrays (listsNow d w u v g) ⌝ }
+    requires { ⌜ WorkArrays (listsNow d w u v g k) ⌝ }
     ensures { λ r.
-        let l = listsLent wanted weight left right distance in
-        let work = listsLent d w u v g in
+        let l = listsLent wanted weight left right distance kind in
+        let work = listsLent d w u v g k in
         ⌜ HandedOver counts (work .entry) (l .entry) r (l .exit) ⌝ }
 {
     let room = Room {
@@ -137,6 +146,7 @@ fn hand_over(
         left: left.len(),
         right: right.len(),
         distance: distance.len(),
+        kind: kind.len(),
     };
     let answer = judge(counts, room);
     let Reading::Sheet(known) = answer else {
@@ -149,6 +159,7 @@ fn hand_over(
     copy_indices(gaps, u, left);
     copy_indices(gaps, v, right);
     copy_ints(gaps, g, distance);
+    copy_bytes(gaps, k, kind);
     answer
 }
 
@@ -160,9 +171,10 @@ pub fn read_sheet(
     left: &mut [usize],
     right: &mut [usize],
     distance: &mut [i64],
+    kind: &mut [u8],
 ) -> Reading
     ensures { λ r.
-        let l = listsLent wanted weight left right distance in
+        let l = listsLent wanted weight left right distance kind in
         ⌜ ReadInto (before text) (l .entry) r (l .exit) ⌝ }
 {
     if TEXT_MOST < text.len() {
@@ -173,7 +185,8 @@ pub fn read_sheet(
     let mut u = [0usize; GAPS];
     let mut v = [0usize; GAPS];
     let mut g = [0i64; GAPS];
-    let found = read_lines(text, &mut d, &mut w, &mut u, &mut v, &mut g);
+    let mut k = [0u8; GAPS];
+    let found = read_lines(text, &mut d, &mut w, &mut u, &mut v, &mut g, &mut k);
     let Reading::Sheet(counts) = found else {
         return found;
     };
@@ -184,10 +197,12 @@ pub fn read_sheet(
         &u,
         &v,
         &g,
+        &k,
         wanted,
         weight,
         left,
         right,
         distance,
+        kind,
     )
 }

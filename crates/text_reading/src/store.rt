@@ -4,6 +4,7 @@ use ground::GapNumber;
 use ground::GapRecord;
 use ground::Label;
 use ground::limits::GAPS;
+use ground::limits::GapBytes;
 use ground::limits::GapIndices;
 use ground::limits::GapInts;
 use ground::limits::LABELS;
@@ -32,27 +33,31 @@ fn store_label(row: LabelRow, label: Label, wanted: &mut LabelInts, weight: &mut
     }
 }
 
-// Stores a gap that there is room for.
+// Stores a gap of either kind that there is room for.
 fn store_gap(
     row: GapRecord,
     gap: GapNumber,
     left: &mut GapIndices,
     right: &mut GapIndices,
     distance: &mut GapInts,
+    kind: &mut GapBytes,
 )
     ensures { λ _.
         ⌜ (after left ≡ stored gapsMost (gap .0) (row .left) (before left))
         × (after right ≡ stored gapsMost (gap .0) (row .right) (before right))
-        × (after distance ≡ stored gapsMost (gap .0) (row .distance) (before distance)) ⌝ }
+        × (after distance ≡ stored gapsMost (gap .0) (row .distance) (before distance))
+        × (after kind ≡ stored gapsMost (gap .0) (row .kind) (before kind)) ⌝ }
 {
-    let k = gap.0;
-    if k < GAPS {
+    let e = gap.0;
+    if e < GAPS {
         let u = row.left;
         let v = row.right;
         let g = row.distance;
-        left[k] = u;
-        right[k] = v;
-        distance[k] = g;
+        let k = row.kind;
+        left[e] = u;
+        right[e] = v;
+        distance[e] = g;
+        kind[e] = k;
     }
 }
 
@@ -65,10 +70,11 @@ pub(crate) fn store(
     left: &mut GapIndices,
     right: &mut GapIndices,
     distance: &mut GapInts,
+    kind: &mut GapBytes,
 ) -> Counts
     requires { ⌜ (counts .labels < textMost) × (counts .gaps < textMost) ⌝ }
     ensures { λ r.
-        let l = listsLent wanted weight left right distance in
+        let l = listsLent wanted weight left right distance kind in
         ⌜ Stored row counts (l .entry) r (l .exit) ⌝ }
 {
     let labels = counts.labels;
@@ -82,7 +88,7 @@ pub(crate) fn store(
             }
         }
         Row::Gap(gap) => {
-            store_gap(gap, GapNumber(gaps), left, right, distance);
+            store_gap(gap, GapNumber(gaps), left, right, distance, kind);
             Counts {
                 labels,
                 gaps: gaps + 1,

@@ -14,7 +14,7 @@ use Rattle.text_rows.specs.declared.Taken.{Taken}
 use Rattle.text_rows.specs.declared.Taken.the-variants.{Bad}
 use Rattle.text_rows.specs.Lines.{comma, push, fields}
 use Rattle.text_rows.specs.Fields.{FirstComma}
-use Rattle.text_rows.specs.Taking.{noField, same, rowOf, taken}
+use Rattle.text_rows.specs.Taking.{noField, sameBytes, rowOf, taken}
 
 -- ---- words
 
@@ -23,19 +23,19 @@ and-false true = refl
 and-false false = refl
 
 -- words of different lengths differ
-pub lengths-differ : (xs ys : List ℕ) → (length xs ≡ length ys → ⊥) → false ≡ same xs ys
-unfolding same
+pub lengths-differ : (xs ys : List ℕ) → (length xs ≡ length ys → ⊥) → false ≡ sameBytes xs ys
+unfolding sameBytes
 lengths-differ [] [] h = absurd (h refl)
 lengths-differ [] (b ∷ ys) h = refl
 lengths-differ (a ∷ xs) [] h = refl
 lengths-differ (a ∷ xs) (b ∷ ys) h = rw (← lengths-differ xs ys (λ e. h (ap suc e))) (and-false (eqb a b))
 
 -- one byte more of both
-pub same-drop :
-    (xs ys : List ℕ) (i : ℕ) → i < length xs → i < length ys → same (drop i xs) (drop i ys)
-    ≡ (eqb (getD xs i 0) (getD ys i 0) && same (drop (suc i) xs) (drop (suc i) ys))
-unfolding same
-same-drop xs ys i h l = rw (drop-cons xs i 0 h, drop-cons ys i 0 l)
+pub bytes-drop :
+    (xs ys : List ℕ) (i : ℕ) → i < length xs → i < length ys → sameBytes (drop i xs) (drop i ys)
+    ≡ (eqb (getD xs i 0) (getD ys i 0) && sameBytes (drop (suc i) xs) (drop (suc i) ys))
+unfolding sameBytes
+bytes-drop xs ys i h l = rw (drop-cons xs i 0 h, drop-cons ys i 0 l)
 
 -- ---- fields
 

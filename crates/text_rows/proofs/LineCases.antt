@@ -1,4 +1,4 @@
--- What holds of every line, by its cases: 10, 13, 14 at one of three fields, 15, a label, a gap.
+-- What holds of every line, by its cases: 10, 13, 14 at one of three fields, 15, a label, a gap of either kind.
 use Prim.Native.Nat.{ℕ, _≤_}
 use mathlib.Core.Path.{_≡_, refl}
 use mathlib.Core.Bool.{Bool, true, false, cond}
@@ -9,13 +9,14 @@ use borrow.Author.Tests.{eqb-true}
 use lib.Dec.{eqb}
 use lib.ListN.{length}
 use lib.IntN.{ℤ}
+use Rattle.ground.specs.Kinds.{atLeastByte, exactlyByte}
 use Rattle.text_rows.specs.declared.Earlier.{Earlier}
 use Rattle.text_rows.specs.declared.Taken.{Taken}
 use Rattle.text_rows.specs.declared.Taken.the-variants.{Good, Bad}
 use Rattle.text_rows.specs.declared.Row.the-variants.{Label, Gap}
 use Rattle.text_rows.specs.Lines.{fields}
 use Rattle.text_rows.specs.Numeral.{number, signed, weightOf}
-use Rattle.text_rows.specs.Taking.{fieldAt, gapRow, gapWord, given, labelRow, labelWord, noField, rowOf, same, taken}
+use Rattle.text_rows.specs.Taking.{fieldAt, gapRow, gapWord, given, kindWord, labelRow, labelWord, noField, rowOf, sameBytes, sameWord, taken}
 
 -- the refusals of a line
 pub record BadLine (P : Taken → Type 0) : Type 0 where
@@ -27,17 +28,26 @@ pub record BadLine (P : Taken → Type 0) : Type 0 where
 -- the fields of a label's record that is taken, and of a gap's
 pub record LabelFields (fs : List (List ℕ)) (n : ℕ) (wanted weight : ℤ) : Type 0 where
   pub four : length fs ≡ 4
-  pub word : same (fieldAt fs 1) labelWord ≡ true
+  pub word : sameBytes (fieldAt fs 1) labelWord ≡ true
   pub second : number (fieldAt fs 2) ≡ some n
   pub third : signed (fieldAt fs 3) ≡ some wanted
   pub fourth : weightOf (fieldAt fs 4) ≡ some weight
 
-pub record GapFields (fs : List (List ℕ)) (left right : ℕ) (distance : ℤ) : Type 0 where
+pub record GapFields (fs : List (List ℕ)) (kind left right : ℕ) (distance : ℤ) : Type 0 where
+  pub known : kind ≤ exactlyByte
   pub four : length fs ≡ 4
-  pub word : same (fieldAt fs 1) gapWord ≡ true
+  pub word : sameBytes (fieldAt fs 1) (kindWord kind) ≡ true
   pub second : number (fieldAt fs 2) ≡ some left
   pub third : number (fieldAt fs 3) ≡ some right
   pub fourth : signed (fieldAt fs 4) ≡ some distance
+
+-- what holds of both words of gaps holds of the word of a kind
+pub by-kind : (Q : List ℕ → Type 0) → Q gapWord → Q sameWord → (kind : ℕ) → Q (kindWord kind)
+by-kind Q gap same kind = go (eqb kind exactlyByte)
+  where
+    go : (t : Bool) → Q (cond t sameWord gapWord)
+    go true = same
+    go false = gap
 
 module _ (P : Taken → Type 0) (bad : BadLine P) where
   by-number :
@@ -55,7 +65,7 @@ module _ (P : Taken → Type 0) (bad : BadLine P) where
     fs = fields line
 
     label-cases :
-        length fs ≡ 4 → same (fieldAt fs 1) labelWord ≡ true
+        length fs ≡ 4 → sameBytes (fieldAt fs 1) labelWord ≡ true
         → ((n : ℕ) (z m : ℤ) → LabelFields fs n z m → P (Good (Label (record { wanted = z; weight = m }))))
         → P (labelRow earlier (fieldAt fs 2) (fieldAt fs 3) (fieldAt fs 4))
     label-cases four word h =
@@ -67,25 +77,27 @@ module _ (P : Taken → Type 0) (bad : BadLine P) where
         (λ e. bad .turn))))
 
     gap-cases :
-        length fs ≡ 4 → same (fieldAt fs 1) gapWord ≡ true
-        → ((u v : ℕ) (z : ℤ) → GapFields fs u v z → P (Good (Gap (record { left = u; right = v; distance = z }))))
-        → P (gapRow (fieldAt fs 2) (fieldAt fs 3) (fieldAt fs 4))
-    gap-cases four word h =
+        (kind : ℕ) → kind ≤ exactlyByte → length fs ≡ 4 → sameBytes (fieldAt fs 1) (kindWord kind) ≡ true
+        → ((u v : ℕ) (z : ℤ) → GapFields fs kind u v z → P (Good (Gap (record { left = u; right = v; distance = z; kind = kind }))))
+        → P (gapRow kind (fieldAt fs 2) (fieldAt fs 3) (fieldAt fs 4))
+    gap-cases kind known four word h =
         by-number 2 (omega arith) (omega arith) (number (fieldAt fs 2)) _ (λ u p.
         by-number 3 (omega arith) (omega arith) (number (fieldAt fs 3)) _ (λ v q.
         by-number 4 (omega arith) (omega arith) (signed (fieldAt fs 4)) _ (λ z r.
-        h u v z (record { four = four; word = word; second = p; third = q; fourth = r }))))
+        h u v z (record { known = known; four = four; word = word; second = p; third = q; fourth = r }))))
 
     pub taken-cases :
         ((n : ℕ) (z m : ℤ) → LabelFields fs n z m → P (Good (Label (record { wanted = z; weight = m }))))
-        → ((u v : ℕ) (z : ℤ) → GapFields fs u v z → P (Good (Gap (record { left = u; right = v; distance = z }))))
+        → ((kind u v : ℕ) (z : ℤ) → GapFields fs kind u v z → P (Good (Gap (record { left = u; right = v; distance = z; kind = kind }))))
         → P (taken earlier line)
     unfolding rowOf
     taken-cases label gap =
         by-test (eqb (length fs) 4) _ _
-        (λ four. by-test (same (fieldAt fs 1) labelWord) _ _
+        (λ four. by-test (sameBytes (fieldAt fs 1) labelWord) _ _
         (λ word. label-cases (eqb-true (length fs) 4 four) word label)
-        (λ other. by-test (same (fieldAt fs 1) gapWord) _ _
-        (λ word. gap-cases (eqb-true (length fs) 4 four) word gap)
-        (λ e. bad .word)))
+        (λ other. by-test (sameBytes (fieldAt fs 1) gapWord) _ _
+        (λ word. gap-cases atLeastByte (omega arith) (eqb-true (length fs) 4 four) word (gap atLeastByte))
+        (λ neither. by-test (sameBytes (fieldAt fs 1) sameWord) _ _
+        (λ word. gap-cases exactlyByte (omega arith) (eqb-true (length fs) 4 four) word (gap exactlyByte))
+        (λ e. bad .word))))
         (λ e. bad .count)

@@ -18,8 +18,8 @@ use Rattle.text_rows.specs.declared.Taken.{Taken}
 use Rattle.text_rows.specs.declared.Taken.the-variants.{Good, Bad}
 use Rattle.text_rows.specs.Lines.{carriageReturn, comma, fields, push}
 use Rattle.text_rows.specs.Numeral.{allDigits, digitNine, digitZero, digitsMost, minus, number, optionMap, signed, valueOf, weightOf}
-use Rattle.text_rows.specs.Taking.{fieldAt, gapWord, labelWord, same, taken}
-use Rattle.text_rows.proofs.LineCases.{taken-cases}
+use Rattle.text_rows.specs.Taking.{fieldAt, gapWord, kindWord, labelWord, sameBytes, sameWord, taken}
+use Rattle.text_rows.proofs.LineCases.{by-kind, taken-cases}
 
 -- what holds if a line is taken
 abbrev IfTaken : Type 0 → Taken → Type 0
@@ -33,16 +33,16 @@ both false b e = absurd (true≢false (sym e))
 -- ---- bytes of words, of digits, the minus sign and the comma
 
 module _
-    (P : ℕ → Type 0) (words : Each P labelWord × Each P gapWord) (digit : (b : ℕ) → digitZero ≤ b → b ≤ digitNine → P b)
+    (P : ℕ → Type 0) (words : Each P labelWord × Each P gapWord × Each P sameWord) (digit : (b : ℕ) → digitZero ≤ b → b ≤ digitNine → P b)
     (sign : P minus) (between : P comma)
   where
-    word-bytes : (f word : List ℕ) → same f word ≡ true → Each P word → Each P f
-    unfolding same
+    word-bytes : (f word : List ℕ) → sameBytes f word ≡ true → Each P word → Each P f
+    unfolding sameBytes
     word-bytes [] [] e h = tt
     word-bytes [] (b ∷ bs) e h = absurd (true≢false (sym e))
     word-bytes (a ∷ xs) [] e h = absurd (true≢false (sym e))
     word-bytes (a ∷ xs) (b ∷ bs) e h =
-        let t = both (eqb a b) (same xs bs) e in
+        let t = both (eqb a b) (sameBytes xs bs) e in
         (subst P (sym (eqb-true a b (t .0))) (h .0), word-bytes xs bs (t .1) (h .1))
 
     digit-bytes : (f : List ℕ) → allDigits f ≡ true → Each P f
@@ -118,7 +118,7 @@ module _
         earlier line
         (λ n z m k. line-bytes line (four-bytes (fields line) (k .four) (word-bytes _ labelWord (k .word) (words .0))
         (number-bytes _ n (k .second)) (signed-bytes _ z (k .third)) (weight-bytes _ m (k .fourth))))
-        (λ u v z k. line-bytes line (four-bytes (fields line) (k .four) (word-bytes _ gapWord (k .word) (words .1))
+        (λ kind u v z k. line-bytes line (four-bytes (fields line) (k .four) (word-bytes _ (kindWord kind) (k .word) (by-kind (Each P) (words .1) (words .2) kind))
         (number-bytes _ u (k .second)) (number-bytes _ v (k .third)) (signed-bytes _ z (k .fourth))))
 
     pub taken-bytes : (earlier : Earlier) (line : List ℕ) (row : Row) → taken earlier line ≡ Good row → Each P line

@@ -3,7 +3,7 @@ ghost use mathlib.Core.Path.{_≡_};
 ghost use lib.IntN.{pos, negℤ};
 ghost use Rattle.text_rows.specs.Numeral as numeral;
 ghost use Rattle.text_rows.specs.Fields.{natural, integer};
-ghost use Rattle.text_rows.specs.Taking.{same};
+ghost use Rattle.text_rows.specs.Taking.{sameBytes};
 ghost use Rattle.ground.specs.Views.{before};
 
 // Digits of a number, at most.
@@ -91,7 +91,7 @@ pub(crate) fn weight(field: &[u8]) -> Integer
 
 // Whether a field is this word, byte for byte.
 pub(crate) fn is_word(field: &[u8], word: &[u8]) -> bool
-    ensures { λ r. ⌜ r ≡ same (before field) (before word) ⌝ }
+    ensures { λ r. ⌜ r ≡ sameBytes (before field) (before word) ⌝ }
 {
     if field.len() != word.len() {
         return false;

@@ -13,7 +13,7 @@ pub struct LabelRow {
     pub weight: i64,
 }
 
-// A record of the text.
+// A record of the text: a label, or a gap of either kind, whose word is gap or same.
 pub enum Row {
     Label(LabelRow),
     Gap(GapRecord),

@@ -1,4 +1,4 @@
-// A line taken apart as label or gap.
+// A line taken apart by its first field, label, gap or same: as a label, or as a gap of either kind.
 use crate::Earlier;
 use crate::LabelRow;
 use crate::NO_FIELD;
@@ -8,6 +8,8 @@ use crate::field;
 use crate::field::Integer;
 use crate::field::Natural;
 use ground::GapRecord;
+use ground::limits::AT_LEAST;
+use ground::limits::EXACTLY;
 ghost use mathlib.Core.Path.{_≡_};
 ghost use mathlib.Core.List.{_∷_, []};
 ghost use Prim.Native.Nat.{_≤_};
@@ -17,7 +19,7 @@ ghost use Rattle.text_rows.specs.Fields.{FirstComma};
 ghost use Rattle.ground.specs.Views.{before};
 
 // The fields of a label's record and of a gap's, counted from 1.
-const KIND: usize = 1;
+const WORD: usize = 1;
 
 const NUMBER: usize = 2;
 
@@ -68,9 +70,9 @@ fn label_row(number: &[u8], wanted: &[u8], weight: &[u8], earlier: Earlier) -> T
     }))
 }
 
-// A gap's record.
-fn gap_row(left: &[u8], right: &[u8], distance: &[u8]) -> Taken
-    ensures { λ r. ⌜ r ≡ gapRow (before left) (before right) (before distance) ⌝ }
+// The record of a gap of this kind.
+fn gap_row(kind: u8, left: &[u8], right: &[u8], distance: &[u8]) -> Taken
+    ensures { λ r. ⌜ r ≡ gapRow kind (before left) (before right) (before distance) ⌝ }
 {
     let Natural::Value(u) = field::number(left) else {
         return Taken::Bad(14, LEFT);
@@ -85,6 +87,7 @@ fn gap_row(left: &[u8], right: &[u8], distance: &[u8]) -> Taken
         left: u,
         right: v,
         distance: g,
+        kind,
     }))
 }
 
@@ -98,9 +101,12 @@ fn row_of(word: &[u8], second: &[u8], third: &[u8], fourth: &[u8], earlier: Earl
         return label_row(second, third, fourth, earlier);
     }
     if field::is_word(word, b"gap") {
-        return gap_row(second, third, fourth);
+        return gap_row(AT_LEAST, second, third, fourth);
     }
-    Taken::Bad(13, KIND)
+    if field::is_word(word, b"same") {
+        return gap_row(EXACTLY, second, third, fourth);
+    }
+    Taken::Bad(13, WORD)
 }
 
 // A line after those before it. It is split at its commas; it must have three.

@@ -12,19 +12,21 @@ pub struct Both {
     pub second: Answer,
 }
 
-// Lays out two sheets: the first lends its gaps as three lists, the second as records. Anything may be lent.
+// Lays out two sheets: the first lends its gaps as lists, the second as records. Anything may be lent.
 pub fn lay_out_both(
     wanted: &[i64],
     weight: &[i64],
     left: &[usize],
     right: &[usize],
     distance: &[i64],
+    kind: &[u8],
     carried: &mut [u8],
     place_num: &mut [i64],
     place_den: &mut [i64],
     mult_num: &mut [i64],
     mult_den: &mut [i64],
     ring: &mut [usize],
+    back: &mut [u8],
     second_wanted: &[i64],
     second_weight: &[i64],
     gaps: &[GapRecord],
@@ -34,12 +36,13 @@ pub fn lay_out_both(
     second_mult_num: &mut [i64],
     second_mult_den: &mut [i64],
     second_ring: &mut [usize],
+    second_back: &mut [u8],
 ) -> Both
     ensures { λ r.
-        let sheet = sheetLent wanted weight left right distance in
-        let room = roomLent carried «place_num» «place_den» «mult_num» «mult_den» ring in
+        let sheet = sheetLent wanted weight left right distance kind in
+        let room = roomLent carried «place_num» «place_den» «mult_num» «mult_den» ring back in
         let secondSheet = recordsLent «second_wanted» «second_weight» gaps in
-        let secondRoom = roomLent «second_carried» «second_place_num» «second_place_den» «second_mult_num» «second_mult_den» «second_ring» in
+        let secondRoom = roomLent «second_carried» «second_place_num» «second_place_den» «second_mult_num» «second_mult_den» «second_ring» «second_back» in
         ⌜ BothPromised sheet (room .entry) (r .first) (room .exit) secondSheet (secondRoom .entry) (r .second)
         (secondRoom .exit) ⌝ }
 {
@@ -49,12 +52,14 @@ pub fn lay_out_both(
         left,
         right,
         distance,
+        kind,
         carried,
         place_num,
         place_den,
         mult_num,
         mult_den,
         ring,
+        back,
     );
     let second = lay_out_records(
         second_wanted,
@@ -66,6 +71,7 @@ pub fn lay_out_both(
         second_mult_num,
         second_mult_den,
         second_ring,
+        second_back,
     );
     Both { first, second }
 }

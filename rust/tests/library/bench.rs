@@ -5,7 +5,7 @@ use crate::sheet::Sheet;
 use crate::solver;
 
 /// Labels with weights 1, and gaps.
-fn plain(wanted: &[i64], gaps: &[(usize, usize, i64)]) -> Sheet {
+pub fn plain(wanted: &[i64], gaps: &[(usize, usize, i64)]) -> Sheet {
     let mut sheet = Sheet::default();
     wanted.iter().for_each(|&d| sheet.label(d, 1));
     gaps.iter().for_each(|&(u, v, g)| sheet.gap(u, v, g));
@@ -17,14 +17,14 @@ fn checked(sheet: &Sheet) -> Outcome {
 }
 
 /// Refused with this number at this place.
-fn refused(sheet: &Sheet, number: u64, place: u64) {
+pub fn refused(sheet: &Sheet, number: u64, place: u64) {
     assert_eq!(checked(sheet), Outcome::Refused(number));
     let answer = Lent::zeros(sheet.labels(), sheet.gaps()).call(sheet);
     assert_eq!(answer, refused_at(number, place));
 }
 
 /// Placed, by the solver and by the library, at these places.
-fn placed(sheet: &Sheet, places: &[(i128, i128)]) {
+pub fn placed(sheet: &Sheet, places: &[(i128, i128)]) {
     let expected: Vec<_> = places.iter().map(|&(n, d)| Fraction::new(n, d)).collect();
     assert_eq!(solver::solve(sheet), Some(expected));
     assert_eq!(checked(sheet), Outcome::Placed);

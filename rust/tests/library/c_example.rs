@@ -72,6 +72,13 @@ fn runs() {
         printed(&program, crossing),
         "place,0,1,2,1\r\nplace,1,-1,2,0\r\nslack,0,0,1\r\n"
     );
+    let joined = b"label,0,0,1\nlabel,1,10,1\nsame,0,1,6\n";
+    assert_eq!(
+        printed(&program, joined),
+        "place,0,2,1,2\r\nplace,1,8,1,8\r\nslack,0,0,1\r\n"
+    );
+    let contradiction = b"label,0,0,1\nlabel,1,0,1\nsame,0,1,5\ngap,0,1,6\n";
+    assert_eq!(printed(&program, contradiction), "refused,9,0,0\r\n");
     assert_eq!(printed(&program, b"label,0,0,0"), "refused,6,0,0\r\n");
     assert_eq!(printed(&program, b""), "");
     bad_texts(&program);
@@ -83,6 +90,7 @@ fn bad_texts(program: &Path) {
     for (text, record) in [
         (&b"label,0,0,1\n\n"[..], "refused,10,2,0\r\n"),
         (b"label,0,0,1\nGap,0,0,1\n", "refused,13,2,1\r\n"),
+        (b"label,0,0,1\nSame,0,0,1\n", "refused,13,2,1\r\n"),
         (b"label,-0,0,1\n", "refused,14,1,2\r\n"),
         (b"label,0,+5,1\n", "refused,14,1,3\r\n"),
         (b"label,7,0,x\n", "refused,14,1,4\r\n"),

@@ -9,7 +9,8 @@ use crate::refusals;
 use crate::rounding::{half_up, units_of};
 use crate::sheet::Sheet;
 use crate::solver;
-use dirmoog::{lay_out, ring_part, write_listing, Answer, Listable, Listed, Refusal, Room};
+use dirmoog::{back_part, lay_out, ring_part, write_listing};
+use dirmoog::{Answer, Listable, Listed, Refusal, Room};
 
 /// What is lent to write, and the carried record. The lists may be of any lengths and hold anything.
 #[derive(Clone, Debug, Default, PartialEq, Eq)]
@@ -20,10 +21,11 @@ pub struct Lent {
     pub mult_num: Vec<i64>,
     pub mult_den: Vec<i64>,
     pub ring: Vec<u64>,
+    pub back: Vec<u8>,
 }
 
 /// How a call came out.
-#[derive(Clone, Copy, Debug, PartialEq, Eq)]
+#[derive(Clone, Copy, Debug, PartialEq, Eq, PartialOrd, Ord)]
 pub enum Outcome {
     Placed,
     Refused(u64),
@@ -39,6 +41,7 @@ impl Lent {
             mult_num: vec![0; gaps],
             mult_den: vec![0; gaps],
             ring: vec![0; labels],
+            back: vec![0; labels],
         }
     }
 
@@ -59,6 +62,9 @@ impl Lent {
             ring: (0..labels + random.below(4))
                 .map(|_| random.next())
                 .collect(),
+            back: (0..labels + random.below(4))
+                .map(|_| random.next() as u8)
+                .collect(),
         }
     }
 
@@ -70,6 +76,7 @@ impl Lent {
             left: &sheet.left,
             right: &sheet.right,
             distance: &sheet.distance,
+            kind: &sheet.kind,
         };
         let mut room = Room {
             carried: &mut self.carried,
@@ -78,6 +85,7 @@ impl Lent {
             mult_num: &mut self.mult_num,
             mult_den: &mut self.mult_den,
             ring: &mut self.ring,
+            back: &mut self.back,
         };
         lay_out(&sheet, &mut room)
     }
@@ -151,28 +159,41 @@ pub fn refused_at(number: u64, place: u64) -> Answer {
 
 /// Calls the library and checks its answer and every lent entry afterwards against the parts beside it.
 pub fn check_call(sheet: &Sheet, before: &Lent) -> Outcome {
+    checked_call(sheet, before).outcome
+}
+
+/// A call that was checked: how it came out, the ring if it is one, and what is lent afterwards.
+pub struct Checked {
+    pub outcome: Outcome,
+    pub ring: Vec<(u64, u8)>,
+    pub after: Lent,
+}
+
+/// The same, and gives what is lent afterwards too.
+pub fn checked_call(sheet: &Sheet, before: &Lent) -> Checked {
     let mut after = before.clone();
     let answer = after.call(sheet);
-    if let Some((number, place)) = refusals::table(sheet, before) {
+    let (outcome, ring) = if let Some((number, place)) = refusals::table(sheet, before) {
         assert_eq!(answer, refused_at(number, place));
         assert_eq!(after, *before);
-        return Outcome::Refused(number);
-    }
-    match solver::solve(sheet) {
-        Some(places) => {
-            assert_eq!(answer, Answer::Placed);
-            check_placed(sheet, before, &after, &places);
-            Outcome::Placed
-        }
-        None => {
-            check_ring(sheet, before, &after, answer);
-            Outcome::Refused(9)
-        }
+        (Outcome::Refused(number), vec![])
+    } else if let Some(places) = solver::solve(sheet) {
+        assert_eq!(answer, Answer::Placed);
+        check_placed(sheet, before, &after, &places);
+        (Outcome::Placed, vec![])
+    } else {
+        let ring = check_ring(sheet, before, &after, answer);
+        (Outcome::Refused(9), ring)
+    };
+    Checked {
+        outcome,
+        ring,
+        after,
     }
 }
 
 /// The places are the solver's; multipliers, marks and the whole units and slacks that are printed meet
-/// their conditions; entries beyond and the ring buffer stay.
+/// their conditions; entries beyond and both ring buffers stay.
 fn check_placed(sheet: &Sheet, before: &Lent, after: &Lent, places: &[Fraction]) {
     let (labels, gaps) = (sheet.labels(), sheet.gaps());
     let multipliers = after.multipliers(gaps);
@@ -189,10 +210,11 @@ fn check_placed(sheet: &Sheet, before: &Lent, after: &Lent, places: &[Fraction])
     assert_eq!(after.mult_num[gaps..], before.mult_num[gaps..]);
     assert_eq!(after.mult_den[gaps..], before.mult_den[gaps..]);
     assert_eq!(after.ring, before.ring);
+    assert_eq!(after.back, before.back);
 }
 
-/// Refused with 9 and place 0; the front of the ring buffer is a ring, and everything else stays.
-fn check_ring(sheet: &Sheet, before: &Lent, after: &Lent, answer: Answer) {
+/// Refused with 9 and place 0; the fronts of both ring buffers are a ring, which is given, and everything else stays.
+fn check_ring(sheet: &Sheet, before: &Lent, after: &Lent, answer: Answer) -> Vec<(u64, u8)> {
     let Answer::Refused(Refusal {
         number: 9,
         place: 0,
@@ -201,8 +223,11 @@ fn check_ring(sheet: &Sheet, before: &Lent, after: &Lent, answer: Answer) {
     else {
         panic!("{answer:?} for a sheet without a placement");
     };
-    confirm_ring(sheet, ring_part(&after.ring, ring)).expect("ring");
+    let (gaps, back) = (ring_part(&after.ring, ring), back_part(&after.back, ring));
+    confirm_ring(sheet, gaps, back).expect("ring");
     let mut expected = before.clone();
-    expected.ring[..ring as usize].copy_from_slice(ring_part(&after.ring, ring));
+    expected.ring[..gaps.len()].copy_from_slice(gaps);
+    expected.back[..back.len()].copy_from_slice(back);
     assert_eq!(*after, expected);
+    gaps.iter().copied().zip(back.iter().copied()).collect()
 }

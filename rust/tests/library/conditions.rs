@@ -1,17 +1,18 @@
 //! The conditions of document 01, "Least move", "What a station lends" and refusal 9, and of document
-//! 02, Items 1 and 4, each as a check of its own.
+//! 02, Items 1, 4 and 6, each as a check of its own.
 use crate::fraction::{Fraction, ZERO};
-use crate::sheet::Sheet;
+use crate::sheet::{Gap, Sheet};
 
-/// That the placement is the least move, by these multipliers: every gap holds, no multiplier is
-/// negative, those of gaps that are not tight and of self gaps are zero, and each label balances.
+/// That the placement is the least move, by these multipliers: every gap holds, an exact one with
+/// nothing to spare, no multiplier but an exact gap's is negative, those of gaps that are not tight
+/// and of self gaps are zero, and each label balances.
 pub fn confirm(sheet: &Sheet, places: &[Fraction], multipliers: &[Fraction]) -> Result<(), String> {
     for (e, gap) in sheet.all_gaps().iter().enumerate() {
         let (slack, multiplier) = (gap.slack(places), multipliers[e]);
-        if slack < ZERO {
+        if !gap.holds_with(slack) {
             return Err(format!("gap {e} is broken"));
         }
-        if multiplier < ZERO {
+        if multiplier < ZERO && !gap.exact {
             return Err(format!("the multiplier of gap {e} is negative"));
         }
         if multiplier != ZERO && (slack != ZERO || gap.left == gap.right) {
@@ -68,15 +69,15 @@ pub fn confirm_marks(
     Ok(())
 }
 
-/// That these are the slacks of the gaps, and none is negative.
+/// That these are the slacks of the gaps, none is negative and those of exact gaps are zero.
 pub fn confirm_slacks(
     sheet: &Sheet,
     places: &[Fraction],
     slacks: &[Fraction],
 ) -> Result<(), String> {
     for (e, (gap, &slack)) in sheet.all_gaps().iter().zip(slacks).enumerate() {
-        if slack < ZERO {
-            return Err(format!("the slack of gap {e} is negative"));
+        if !gap.holds_with(slack) {
+            return Err(format!("gap {e} does not hold with the slack {slack:?}"));
         }
         if slack != gap.slack(places) {
             return Err(format!("{slack:?} is not the slack of gap {e}"));
@@ -85,11 +86,11 @@ pub fn confirm_slacks(
     Ok(())
 }
 
-/// That whole units, one per label, meet every gap.
+/// That whole units, one per label, meet every gap, an exact one with nothing to spare.
 pub fn confirm_units(sheet: &Sheet, units: &[i64]) -> Result<(), String> {
     for (e, gap) in sheet.all_gaps().iter().enumerate() {
         let (left, right) = (units[gap.left], units[gap.right]);
-        if left + gap.distance > right {
+        if !gap.holds_with(Fraction::whole(right - left - gap.distance)) {
             return Err(format!("the units {left} and {right} break gap {e}"));
         }
     }
@@ -113,22 +114,53 @@ pub fn confirm_none_to_spare(
     Ok(())
 }
 
-/// That gap numbers are a ring: end to end, closed, no label a left label twice, and the distances
-/// sum above zero.
-pub fn confirm_ring(sheet: &Sheet, ring: &[u64]) -> Result<(), String> {
+/// A gap as a ring passes it.
+struct Step {
+    from: usize,
+    to: usize,
+    distance: i64,
+}
+
+/// The step along a gap, forwards by the byte 0, or by the byte 1 backwards, with the distance negated. An exact gap
+/// alone may be passed backwards.
+fn step(gap: Gap, back: u8) -> Option<Step> {
+    match back {
+        0 => Some(Step {
+            from: gap.left,
+            to: gap.right,
+            distance: gap.distance,
+        }),
+        1 if gap.exact => Some(Step {
+            from: gap.right,
+            to: gap.left,
+            distance: -gap.distance,
+        }),
+        _ => None,
+    }
+}
+
+/// That gap numbers and the bytes beside them are a ring: end to end as walked, closed, no label started from twice,
+/// and the distances as walked sum above zero.
+pub fn confirm_ring(sheet: &Sheet, ring: &[u64], back: &[u8]) -> Result<(), String> {
     let gaps = sheet.all_gaps();
-    if ring.is_empty() || ring.iter().any(|&e| e as usize >= gaps.len()) {
-        return Err(format!("{ring:?} are no gap numbers"));
+    if ring.is_empty() || ring.len() != back.len() {
+        return Err(format!("{ring:?} with {back:?} beside are no ring"));
     }
-    let walk: Vec<_> = ring.iter().map(|&e| gaps[e as usize]).collect();
-    let mut lefts: Vec<usize> = walk.iter().map(|gap| gap.left).collect();
-    let joined = (0..walk.len()).all(|k| walk[k].right == walk[(k + 1) % walk.len()].left);
-    lefts.sort_unstable();
-    if !joined || lefts.windows(2).any(|pair| pair[0] == pair[1]) {
-        return Err(format!("{ring:?} do not go round"));
+    let mut walk = Vec::new();
+    for (&e, &back) in ring.iter().zip(back) {
+        let gap = gaps.get(e as usize).ok_or(format!("{e} is no gap"))?;
+        walk.push(step(*gap, back).ok_or(format!("gap {e} has {back} beside"))?);
     }
-    match walk.iter().map(|gap| gap.distance).sum::<i64>() {
+    let mut starts: Vec<usize> = walk.iter().map(|step| step.from).collect();
+    let joined = (0..walk.len()).all(|k| walk[k].to == walk[(k + 1) % walk.len()].from);
+    starts.sort_unstable();
+    if !joined || starts.windows(2).any(|pair| pair[0] == pair[1]) {
+        return Err(format!("{ring:?} by {back:?} do not go round"));
+    }
+    match walk.iter().map(|step| step.distance).sum::<i64>() {
         sum if sum > 0 => Ok(()),
-        sum => Err(format!("the distances of {ring:?} sum to {sum}")),
+        sum => Err(format!(
+            "the distances of {ring:?} by {back:?} sum to {sum}"
+        )),
     }
 }

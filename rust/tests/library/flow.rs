@@ -1,14 +1,25 @@
-//! A largest flow along arcs without capacity limits, from nodes that give to nodes that take.
+//! A largest flow along arcs without capacity limits, from nodes that give to nodes that take. Along some arcs it may
+//! go either way.
 use std::collections::VecDeque;
 
-/// A largest flow, and the nodes that can still be reached from a node with something left to give.
+/// An arc from one node to another.
+#[derive(Clone, Copy)]
+pub struct Arc {
+    pub from: usize,
+    pub to: usize,
+    pub either_way: bool,
+}
+
+/// A largest flow, below zero along an arc where it goes against it, and the nodes that can still be reached from a node
+/// with something left to give.
 pub struct Flow {
     pub along: Vec<i128>,
     pub reached: Vec<bool>,
     pub left_over: bool,
 }
 
-/// How a node was reached in a search: from a node that gives, along an arc, or against one that has flow.
+/// How a node was reached in a search: from a node that gives, along an arc, or against one that has flow or lets it
+/// go either way.
 #[derive(Clone, Copy)]
 enum From {
     Nothing,
@@ -18,16 +29,16 @@ enum From {
 }
 
 struct Network<'a> {
-    arcs: &'a [(usize, usize)],
+    arcs: &'a [Arc],
     touching: Vec<Vec<usize>>,
     along: Vec<i128>,
     surplus: Vec<i128>,
 }
 
 /// The largest flow. A node gives its surplus where that is above zero and takes where it is below.
-pub fn largest_flow(arcs: &[(usize, usize)], surplus: Vec<i128>) -> Flow {
+pub fn largest_flow(arcs: &[Arc], surplus: Vec<i128>) -> Flow {
     let mut touching = vec![Vec::new(); surplus.len()];
-    for (arc, &(from, to)) in arcs.iter().enumerate() {
+    for (arc, &Arc { from, to, .. }) in arcs.iter().enumerate() {
         touching[from].push(arc);
         touching[to].push(arc);
     }
@@ -62,10 +73,14 @@ impl Network<'_> {
                 return (from, Some(node));
             }
             for &arc in &self.touching[node] {
-                let (tail, head) = self.arcs[arc];
+                let Arc {
+                    from: tail,
+                    to: head,
+                    either_way,
+                } = self.arcs[arc];
                 let step = if tail == node {
                     (head, From::Along(arc))
-                } else if self.along[arc] > 0 {
+                } else if either_way || self.along[arc] > 0 {
                     (tail, From::Against(arc))
                 } else {
                     continue;
@@ -86,11 +101,11 @@ impl Network<'_> {
             match from[node] {
                 From::Along(arc) => {
                     way.push((arc, true));
-                    node = self.arcs[arc].0;
+                    node = self.arcs[arc].from;
                 }
                 From::Against(arc) => {
                     way.push((arc, false));
-                    node = self.arcs[arc].1;
+                    node = self.arcs[arc].to;
                 }
                 From::Giver | From::Nothing => return (way, node),
             }
@@ -102,7 +117,7 @@ impl Network<'_> {
         let (way, giver) = self.way(from, taker);
         let mut amount = self.surplus[giver].min(-self.surplus[taker]);
         for &(arc, forwards) in &way {
-            if !forwards {
+            if !forwards && !self.arcs[arc].either_way {
                 amount = amount.min(self.along[arc]);
             }
         }

@@ -1,12 +1,12 @@
-//! Sheets of many kinds, and what breaks them.
+//! Sheets of many shapes, and what breaks them.
 use crate::call::Lent;
 use crate::random::Random;
-use crate::sheet::Sheet;
+use crate::sheet::{Sheet, EXACTLY};
 use std::ops::RangeInclusive;
 
-/// The kinds of sheets. All keep to the limits, and some have a ring.
+/// The shapes of sheets. All keep to the limits, in each some have exact gaps, and some have a ring.
 #[derive(Clone, Copy, Debug)]
-pub enum Kind {
+pub enum Shape {
     Feasible,
     AnyDistances,
     Chain,
@@ -16,22 +16,26 @@ pub enum Kind {
     SelfGaps,
     Rings,
     Limits,
+    Rigid,
+    Contradictions,
 }
 
-pub const KINDS: [Kind; 9] = [
-    Kind::Feasible,
-    Kind::AnyDistances,
-    Kind::Chain,
-    Kind::Dense,
-    Kind::Equalities,
-    Kind::Duplicates,
-    Kind::SelfGaps,
-    Kind::Rings,
-    Kind::Limits,
+pub const SHAPES: [Shape; 11] = [
+    Shape::Feasible,
+    Shape::AnyDistances,
+    Shape::Chain,
+    Shape::Dense,
+    Shape::Equalities,
+    Shape::Duplicates,
+    Shape::SelfGaps,
+    Shape::Rings,
+    Shape::Limits,
+    Shape::Rigid,
+    Shape::Contradictions,
 ];
 
-/// A sheet of a kind with so many labels.
-pub fn sheet(random: &mut Random, kind: Kind, labels: RangeInclusive<i64>) -> Sheet {
+/// A sheet of a shape with so many labels.
+pub fn sheet(random: &mut Random, shape: Shape, labels: RangeInclusive<i64>) -> Sheet {
     let labels = random.between(*labels.start(), *labels.end()) as usize;
     let mut sheet = labels_only(random, labels);
     if labels == 0 {
@@ -41,18 +45,48 @@ pub fn sheet(random: &mut Random, kind: Kind, labels: RangeInclusive<i64>) -> Sh
     let spread = random.pick(&[5, 100, 5_000, 60_000]);
     let hidden: Vec<i64> = (0..labels).map(|_| random.between(0, spread)).collect();
     let gaps = random.below(1 + 192.min(4 * labels));
-    match kind {
-        Kind::Feasible => allowed_gaps(random, &mut sheet, &hidden, gaps),
-        Kind::AnyDistances => any_gaps(random, &mut sheet, gaps.min(labels + 2)),
-        Kind::Chain => chain(random, &mut sheet),
-        Kind::Dense => dense(random, &mut sheet, &hidden),
-        Kind::Equalities => equalities(random, &mut sheet, &hidden, gaps / 2),
-        Kind::Duplicates => duplicates(random, &mut sheet, &hidden, gaps),
-        Kind::SelfGaps => self_gaps(random, &mut sheet, &hidden, gaps),
-        Kind::Rings => ring(random, &mut sheet, &hidden, gaps),
-        Kind::Limits => limits(random, &mut sheet),
+    match shape {
+        Shape::Feasible => allowed_gaps(random, &mut sheet, &hidden, gaps),
+        Shape::AnyDistances => any_gaps(random, &mut sheet, gaps.min(labels + 2)),
+        Shape::Chain => chain(random, &mut sheet),
+        Shape::Dense => dense(random, &mut sheet, &hidden),
+        Shape::Equalities => equalities(random, &mut sheet, &hidden, gaps / 2),
+        Shape::Duplicates => duplicates(random, &mut sheet, &hidden, gaps),
+        Shape::SelfGaps => self_gaps(random, &mut sheet, &hidden, gaps),
+        Shape::Rings => ring(random, &mut sheet, &hidden, gaps),
+        Shape::Limits => limits(random, &mut sheet),
+        Shape::Rigid => rigid(random, &mut sheet, &hidden, gaps),
+        Shape::Contradictions => contradictions(random, &mut sheet, &hidden, gaps),
+    }
+    match shape {
+        Shape::AnyDistances | Shape::Chain | Shape::Dense | Shape::Limits => {
+            any_exact(random, &mut sheet)
+        }
+        _ => allowed_exact(random, &mut sheet, &hidden),
     }
     sheet
+}
+
+/// Makes gaps exact that the hidden placement meets just so, on some sheets none, on some all. The placement still meets
+/// what it met.
+fn allowed_exact(random: &mut Random, sheet: &mut Sheet, hidden: &[i64]) {
+    let times = random.pick(&[0, 0, 1, 2, 8]);
+    for (e, gap) in sheet.all_gaps().iter().enumerate() {
+        let just_so = hidden[gap.left] + gap.distance == hidden[gap.right];
+        if just_so && times > 0 && random.once_in(times) {
+            sheet.kind[e] = EXACTLY;
+        }
+    }
+}
+
+/// Makes any gaps exact, on some sheets none, on most a few.
+fn any_exact(random: &mut Random, sheet: &mut Sheet) {
+    let times = random.pick(&[0, 0, 2, 8, 40]);
+    for kind in &mut sheet.kind {
+        if times > 0 && random.once_in(times) {
+            *kind = EXACTLY;
+        }
+    }
 }
 
 /// What a blank weight counts in the text.
@@ -160,15 +194,19 @@ fn self_gaps(random: &mut Random, sheet: &mut Sheet, hidden: &[i64], gaps: usize
     for _ in 0..gaps {
         if random.once_in(3) {
             let label = random.below(hidden.len());
-            let most = if random.once_in(40) { 3 } else { 0 };
-            sheet.gap(label, label, random.between(-5, most));
+            match random.below(80) {
+                0 => sheet.same(label, label, random.between(-5, 3)),
+                1 => sheet.gap(label, label, random.between(-5, 3)),
+                _ => sheet.gap(label, label, random.between(-5, 0)),
+            }
         } else {
             allowed_gap(random, sheet, hidden);
         }
     }
 }
 
-/// A ring through some labels whose distances sum to about zero, among gaps that can hold.
+/// A ring through some labels whose distances sum to about zero, among gaps that can hold. On some sheets gaps of the
+/// ring are exact, and those that stand the other way round can only be passed backwards.
 fn ring(random: &mut Random, sheet: &mut Sheet, hidden: &[i64], gaps: usize) {
     allowed_gaps(random, sheet, hidden, gaps.min(140));
     let mut walk: Vec<usize> = (0..hidden.len()).collect();
@@ -178,11 +216,44 @@ fn ring(random: &mut Random, sheet: &mut Sheet, hidden: &[i64], gaps: usize) {
     }
     walk.truncate(1 + random.below(walk.len()));
     let extra = random.pick(&[-1, 0, 0, 1, 1, 700]);
+    let exact = random.pick(&[0, 2, 3]);
     for k in 0..walk.len() {
         let (left, right) = (walk[k], walk[(k + 1) % walk.len()]);
         let more = if k == 0 { extra } else { 0 };
-        let distance = hidden[right] - hidden[left] + more;
-        sheet.gap(left, right, distance.clamp(-20_000, 20_000));
+        let distance = (hidden[right] - hidden[left] + more).clamp(-20_000, 20_000);
+        if random.below(4) >= exact {
+            sheet.gap(left, right, distance);
+        } else if random.once_in(3) {
+            sheet.same(left, right, distance);
+        } else {
+            sheet.same(right, left, -distance);
+        }
+    }
+}
+
+/// Exact gaps that join many labels as they stand in the hidden placement, either way round; as there are more of them
+/// than labels on many sheets, others imply some. Among them are gaps that can hold.
+fn rigid(random: &mut Random, sheet: &mut Sheet, hidden: &[i64], gaps: usize) {
+    for _ in 0..gaps {
+        let (left, right) = (random.below(hidden.len()), random.below(hidden.len()));
+        let distance = hidden[right] - hidden[left];
+        if random.once_in(3) {
+            allowed_gap(random, sheet, hidden);
+        } else if distance.abs() <= 20_000 {
+            sheet.same(left, right, distance);
+        }
+    }
+}
+
+/// The same with an exact gap, or some, off by a little: what others imply, it contradicts.
+fn contradictions(random: &mut Random, sheet: &mut Sheet, hidden: &[i64], gaps: usize) {
+    rigid(random, sheet, hidden, gaps);
+    let exact: Vec<usize> = (0..sheet.gaps())
+        .filter(|&e| sheet.kind[e] == EXACTLY)
+        .collect();
+    for _ in 0..random.below(3).min(exact.len()) {
+        let off = &mut sheet.distance[random.pick(&exact)];
+        *off = (*off + random.pick(&[-300, -1, 1, 300])).clamp(-20_000, 20_000);
     }
 }
 
@@ -293,11 +364,12 @@ fn uneven(random: &mut Random, sheet: &mut Sheet, lent: &mut Lent) {
         1 => count.saturating_sub(1),
         _ => count + 1 + random.below(200),
     };
-    match random.below(6) {
+    match random.below(7) {
         0 => sheet.wanted.resize(change(random, sheet.wanted.len()), 1),
         1 => sheet.weight.resize(change(random, sheet.weight.len()), 1),
         2 => sheet.left.resize(change(random, sheet.left.len()), 0),
         3 => sheet.right.resize(change(random, sheet.right.len()), 0),
+        5 => sheet.kind.resize(change(random, sheet.kind.len()), 0),
         4 => sheet
             .distance
             .resize(change(random, sheet.distance.len()), 0),
@@ -308,11 +380,12 @@ fn uneven(random: &mut Random, sheet: &mut Sheet, lent: &mut Lent) {
 /// A buffer that may be too short.
 fn short(random: &mut Random, lent: &mut Lent) {
     let mut cut = |count: usize| random.below(count + 1);
-    match cut(4) {
+    match cut(5) {
         0 => lent.place_num.truncate(cut(lent.place_num.len())),
         1 => lent.place_den.truncate(cut(lent.place_den.len())),
         2 => lent.mult_num.truncate(cut(lent.mult_num.len())),
         3 => lent.mult_den.truncate(cut(lent.mult_den.len())),
+        4 => lent.back.truncate(cut(lent.back.len())),
         _ => lent.ring.truncate(cut(lent.ring.len())),
     }
 }
@@ -332,12 +405,14 @@ fn out_of_range(random: &mut Random, sheet: &mut Sheet) {
     let place = random.pick(&[-200_001, -200_000, 200_000, 200_001, far]);
     let weight = random.pick(&[0, 1, 100, 101, -1, far]);
     let distance = random.pick(&[-20_001, -20_000, 20_001, far]);
-    match random.below(5) {
+    let kind = random.pick(&[0, 1, 2, 2, 3, 128, 254, 255]);
+    match random.below(6) {
         0 => put(&mut sheet.wanted, label, place),
         1 => put(&mut sheet.weight, label, weight),
         2 => put(&mut sheet.left, gap, stranger),
         3 => put(&mut sheet.right, gap, stranger),
-        _ => put(&mut sheet.distance, gap, distance),
+        4 => put(&mut sheet.distance, gap, distance),
+        _ => put(&mut sheet.kind, gap, kind),
     }
 }
 

@@ -1,10 +1,11 @@
 //! Laws of pairs of calls: the largest move, and the carried record, which never changes a place.
+use crate::bench::plain;
 use crate::call::Lent;
 use crate::fraction::{Fraction, ZERO};
-use crate::generate::{labels_only, sheet, KINDS};
+use crate::generate::{labels_only, sheet, SHAPES};
 use crate::generated::Case;
 use crate::random::Random;
-use crate::sheet::Sheet;
+use crate::sheet::{Sheet, EXACTLY};
 use dirmoog::Answer;
 
 /// The places that are printed for a sheet, from any buffers, if it is accepted.
@@ -39,38 +40,55 @@ fn wants(sheet: &Sheet) -> Vec<Fraction> {
     sheet.wanted.iter().map(|&d| Fraction::whole(d)).collect()
 }
 
-/// Whether the pair was accepted; then no place moved further than the want that moved furthest.
-fn largest_move_holds(seed: u64) -> bool {
+/// The sheet of a pair that was accepted, if it was; then no place moved further than the want that moved furthest.
+fn largest_move_holds(seed: u64) -> Option<Sheet> {
     let _case = Case(seed);
     let mut random = Random::new(seed);
-    let kind = random.pick(&KINDS);
+    let shape = random.pick(&SHAPES);
     let most = random.pick(&[6, 12, 12, 48]);
-    let first = sheet(&mut random, kind, 1..=most);
+    let first = sheet(&mut random, shape, 1..=most);
     let second = other_wants(&mut random, &first);
     let pair = (places(&mut random, &first), places(&mut random, &second));
     let (Some(one), Some(other)) = pair else {
         assert_eq!(pair, (None, None), "gaps alone decide on 9");
-        return false;
+        return None;
     };
     assert!(largest(&one, &other) <= largest(&wants(&first), &wants(&second)));
-    true
+    Some(first)
 }
 
 #[test]
 fn largest_move() {
-    let accepted = (0..12_000)
-        .filter(|case| largest_move_holds(10_000_000 + case))
-        .count();
-    println!("largest move: {accepted} accepted pairs");
-    assert!(accepted > 8_000);
+    let accepted: Vec<Sheet> = (0..12_000)
+        .filter_map(|case| largest_move_holds(10_000_000 + case))
+        .collect();
+    let exact = accepted
+        .iter()
+        .filter(|sheet| sheet.kind.contains(&EXACTLY));
+    let (accepted, exact) = (accepted.len(), exact.count());
+    println!("largest move: {accepted} accepted pairs, {exact} with exact gaps");
+    assert!(accepted > 6_000 && exact > 3_000);
+}
+
+/// Two sheets have the same gaps only if their gaps agree in kind too: here no want moves, and places do.
+#[test]
+fn kinds_are_part_of_the_gaps() {
+    let mut random = Random::new(10_500_000);
+    let at_least = plain(&[0, 10], &[(0, 1, 6)]);
+    let mut exact = at_least.clone();
+    exact.kind[0] = EXACTLY;
+    let [one, other] = [at_least, exact].map(|sheet| places(&mut random, &sheet).expect("places"));
+    assert_eq!(one, [0, 10].map(Fraction::whole));
+    assert_eq!(other, [2, 8].map(Fraction::whole));
+    assert_eq!(largest(&one, &other), Fraction::whole(2));
 }
 
 /// Calls with several carried records: zeros, ones, the outgoing record of the call before, and any bytes.
 fn same_for_any_record(seed: u64) {
     let _case = Case(seed);
     let mut random = Random::new(seed);
-    let kind = random.pick(&KINDS);
-    let sheet = sheet(&mut random, kind, 0..=48);
+    let shape = random.pick(&SHAPES);
+    let sheet = sheet(&mut random, shape, 0..=48);
     let (labels, gaps) = (sheet.labels(), sheet.gaps());
     let mut lent = Lent::zeros(labels, gaps);
     let answer = lent.call(&sheet);

@@ -3,6 +3,7 @@
 
 // the parts
 mod call;
+mod came;
 mod conditions;
 mod flow;
 mod fraction;
@@ -16,9 +17,11 @@ mod solver;
 // the tests
 mod bench;
 mod c_example;
+mod exact_gaps;
 mod generated;
 mod hard;
 mod laws;
+mod opposite_gaps;
 mod raw_calls;
 mod rounding;
 mod rounding_cases;

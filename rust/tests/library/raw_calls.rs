@@ -2,11 +2,11 @@
 use crate::sheet::labels_text;
 use dirmoog::raw;
 
-/// A sheet of two labels and two gaps with a distance that decides how it comes out.
-fn layout(distance: i64, out: &mut [u64]) -> u64 {
+/// A sheet of two labels and two gaps, the second with a distance and a kind that decide how it comes out.
+fn layout(distance: i64, kind: u8, out: &mut [u64]) -> u64 {
     let (wanted, weight, left, right) = ([0i64; 2], [1i64; 2], [0u64, 1], [1u64, 0]);
-    let distance = [5, distance];
-    let (mut carried, mut ring) = ([0u8; 2], [0u64; 2]);
+    let (distance, kind) = ([5, distance], [0, kind]);
+    let (mut carried, mut ring, mut back) = ([0u8; 2], [0u64; 2], [0u8; 2]);
     let mut room = [[0i64; 2]; 4];
     let [place_num, place_den, mult_num, mult_den] = &mut room;
     // SAFETY: each pointer is that of a list of the length given.
@@ -22,6 +22,8 @@ fn layout(distance: i64, out: &mut [u64]) -> u64 {
             2,
             distance.as_ptr(),
             2,
+            kind.as_ptr(),
+            2,
             carried.as_mut_ptr(),
             2,
             place_num.as_mut_ptr(),
@@ -34,6 +36,8 @@ fn layout(distance: i64, out: &mut [u64]) -> u64 {
             2,
             ring.as_mut_ptr(),
             2,
+            back.as_mut_ptr(),
+            2,
             out.as_mut_ptr(),
             out.len(),
         )
@@ -41,19 +45,26 @@ fn layout(distance: i64, out: &mut [u64]) -> u64 {
 }
 
 /// What a layout tells in a list of so many entries, each of which was 77.
-fn told(distance: i64, entries: usize) -> (u64, Vec<u64>) {
+fn told(distance: i64, kind: u8, entries: usize) -> (u64, Vec<u64>) {
     let mut out = vec![77; entries];
-    (layout(distance, &mut out), out)
+    (layout(distance, kind, &mut out), out)
 }
 
 #[test]
 fn layout_tells_what_fits() {
-    // placed; a ring of both gaps; a bad gap at 1
-    for (distance, number, place, ring) in [(-5, 0, 0, 0), (-4, 9, 0, 2), (20_001, 8, 1, 0)] {
-        assert_eq!(told(distance, 0), (number, vec![]));
-        assert_eq!(told(distance, 1), (number, vec![place]));
-        assert_eq!(told(distance, 2), (number, vec![place, ring]));
-        assert_eq!(told(distance, 4), (number, vec![place, ring, 77, 77]));
+    // placed; a ring of both gaps; a bad gap at 1; a kind at 1 that is neither
+    for (distance, kind, number, place, ring) in [
+        (-5, 0, 0, 0, 0),
+        (-5, 1, 0, 0, 0),
+        (-4, 0, 9, 0, 2),
+        (-4, 1, 9, 0, 2),
+        (20_001, 2, 8, 1, 0),
+        (-4, 2, 23, 1, 0),
+    ] {
+        assert_eq!(told(distance, kind, 0), (number, vec![]));
+        assert_eq!(told(distance, kind, 1), (number, vec![place]));
+        assert_eq!(told(distance, kind, 2), (number, vec![place, ring]));
+        assert_eq!(told(distance, kind, 4), (number, vec![place, ring, 77, 77]));
     }
 }
 
@@ -103,8 +114,9 @@ fn slack_tells_what_fits() {
 
 /// Reads a text into lists of one entry each.
 fn read(text: &[u8], out: &mut [u64]) -> u64 {
-    let (mut labels, mut ends, mut distance) = ([[0i64; 1]; 2], [[0u64; 1]; 2], [0i64; 1]);
+    let (mut labels, mut ends) = ([[0i64; 1]; 2], [[0u64; 1]; 2]);
     let ([wanted, weight], [left, right]) = (&mut labels, &mut ends);
+    let (mut distance, mut kind) = ([0i64; 1], [0u8; 1]);
     // SAFETY: each pointer is that of a list of the length given.
     unsafe {
         raw::dirmoog_read(
@@ -120,6 +132,8 @@ fn read(text: &[u8], out: &mut [u64]) -> u64 {
             1,
             distance.as_mut_ptr(),
             1,
+            kind.as_mut_ptr(),
+            1,
             out.as_mut_ptr(),
             out.len(),
         )
@@ -132,15 +146,19 @@ fn read_tells_what_fits() {
     let labels = labels_text(49);
     for (text, number, told) in [
         (&b"label,0,7,\ngap,0,0,0\n"[..], 0, [1, 1]),
+        (b"label,0,7,\nsame,0,0,0\n", 0, [1, 1]),
         (b"", 0, [0, 0]),
         (b"gap,0,0,0\ngap,0,0\n", 10, [2, 0]),
         (b"gap,0,0,0\n\ngap,0,0,0\n", 10, [2, 0]),
         (b"Gap,0,0,0\n", 13, [1, 1]),
+        (b"same,0,0,0\nsame ,0,0,0\n", 13, [2, 1]),
+        (b"same,0,0,x\n", 14, [1, 4]),
         (b"gap,0,0,0\nlabel,x,0,1\n", 14, [2, 2]),
         (b"label,0,7,\ngap,0,-1,0\n", 14, [2, 3]),
         (b"label,0,7,\ngap,0,0,0\nlabel,7,0,x\n", 14, [3, 4]),
         (b"gap,0,0,0\ngap,0,0,0\nlabel,1,0,1\n", 15, [3, 2]),
         (b"gap,0,0,0\ngap,0,0,0\n", 4, [0, 0]),
+        (b"same,0,0,0\nsame,0,0,0\n", 4, [0, 0]),
         (labels.as_bytes(), 1, [0, 0]),
         (&b"gap,0,0,0\n".repeat(193), 2, [0, 0]),
         (&[b'x'; 16_385], 11, [0, 0]),
@@ -199,6 +217,7 @@ fn listing_tells_what_fits() {
             b"refused,15,2,9223372036854775808\r\n",
         ),
         ([16, 31, 7], 30, (0, 17), b"refused,16,31,7\r\n"),
+        ([23, 5, 0], 30, (0, 16), b"refused,23,5,0\r\n"),
         ([0, 5, 4], 27, (4, 0), b""),
         ([9, 0, 2], 14, (4, 0), b""),
         ([14, 31, 4], 16, (4, 0), b""),

@@ -1,5 +1,5 @@
-//! The refusal table of document 01, 1 to 8, written apart from the library: each rule with its
-//! number and first offender.
+//! The refusal table of document 01, 1 to 8, and 23 of document 02, Item 6, written apart from the
+//! library: each rule with its number and first offender.
 use crate::call::Lent;
 use crate::sheet::Sheet;
 use std::ops::RangeInclusive;
@@ -16,6 +16,7 @@ pub fn table(sheet: &Sheet, lent: &Lent) -> Option<(u64, u64)> {
         (6, outside(&sheet.weight, 1..=100)),
         (7, stranger(sheet)),
         (8, outside(&sheet.distance, -20_000..=20_000)),
+        (23, sheet.kind.iter().position(|&kind| kind > 1)),
     ];
     rules
         .into_iter()
@@ -29,13 +30,23 @@ fn first(broken: bool) -> Option<usize> {
 
 fn is_ragged(sheet: &Sheet, lent: &Lent) -> bool {
     let labels = [sheet.weight.len()];
-    let gaps = [sheet.right.len(), sheet.distance.len(), lent.carried.len()];
+    let gaps = [
+        sheet.right.len(),
+        sheet.distance.len(),
+        sheet.kind.len(),
+        lent.carried.len(),
+    ];
     labels.iter().any(|&count| count != sheet.wanted.len())
         || gaps.iter().any(|&count| count != sheet.left.len())
 }
 
 fn is_short(sheet: &Sheet, lent: &Lent) -> bool {
-    let labels = [lent.place_num.len(), lent.place_den.len(), lent.ring.len()];
+    let labels = [
+        lent.place_num.len(),
+        lent.place_den.len(),
+        lent.ring.len(),
+        lent.back.len(),
+    ];
     let gaps = [lent.mult_num.len(), lent.mult_den.len()];
     labels.iter().any(|&room| room < sheet.wanted.len())
         || gaps.iter().any(|&room| room < sheet.left.len())

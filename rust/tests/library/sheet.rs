@@ -1,6 +1,10 @@
 //! A sheet as the tests hold it.
-use crate::fraction::Fraction;
+use crate::fraction::{Fraction, ZERO};
 use std::path::Path;
+
+/// The kinds of gaps.
+pub const AT_LEAST: u8 = 0;
+pub const EXACTLY: u8 = 1;
 
 /// The lists that are lent to read. They may be of any lengths and hold anything.
 #[derive(Clone, Debug, Default, PartialEq, Eq)]
@@ -10,14 +14,16 @@ pub struct Sheet {
     pub left: Vec<u64>,
     pub right: Vec<u64>,
     pub distance: Vec<i64>,
+    pub kind: Vec<u8>,
 }
 
 /// A gap of a sheet whose lists belong together.
-#[derive(Clone, Copy)]
+#[derive(Clone, Copy, PartialEq, Eq)]
 pub struct Gap {
     pub left: usize,
     pub right: usize,
     pub distance: i64,
+    pub exact: bool,
 }
 
 /// A text of the repository's folder of sheets.
@@ -37,10 +43,22 @@ impl Sheet {
         self.weight.push(weight);
     }
 
+    /// Adds a gap that asks for at least its distance.
     pub fn gap(&mut self, left: usize, right: usize, distance: i64) {
+        self.add(left, right, distance, AT_LEAST);
+    }
+
+    /// Adds a gap that asks for exactly its distance.
+    pub fn same(&mut self, left: usize, right: usize, distance: i64) {
+        self.add(left, right, distance, EXACTLY);
+    }
+
+    /// Adds a gap of a kind.
+    pub fn add(&mut self, left: usize, right: usize, distance: i64, kind: u8) {
         self.left.push(left as u64);
         self.right.push(right as u64);
         self.distance.push(distance);
+        self.kind.push(kind);
     }
 
     pub fn labels(&self) -> usize {
@@ -58,15 +76,25 @@ impl Sheet {
                 left: self.left[e] as usize,
                 right: self.right[e] as usize,
                 distance: self.distance[e],
+                exact: self.kind[e] == EXACTLY,
             })
             .collect()
     }
 }
 
 impl Gap {
+    pub fn kind(&self) -> u8 {
+        [AT_LEAST, EXACTLY][usize::from(self.exact)]
+    }
+
     /// Right place less left place less distance.
     pub fn slack(&self, places: &[Fraction]) -> Fraction {
         places[self.right] - places[self.left] - Fraction::whole(self.distance)
+    }
+
+    /// Whether it holds where this is its slack.
+    pub fn holds_with(&self, slack: Fraction) -> bool {
+        slack == ZERO || (slack > ZERO && !self.exact)
     }
 
     pub fn is_tight(&self, places: &[Fraction]) -> bool {

@@ -5,9 +5,12 @@
 //! along the tight gaps either is a set of multipliers, or shows groups that can move right and
 //! make the cost smaller. The placements at which a flow is sought are fixed by their tight gaps
 //! and the cost falls from one to the next, so this ends. Every answer is confirmed by the
-//! conditions of document 01 before it is given.
+//! conditions of documents 01 and 02 before it is given.
+//!
+//! An exact gap pushes both ways at the start, so it is tight there, and it stays so: both its ends
+//! are in one group. The flow may go either way along it, so both its ends are reached, or neither.
 use crate::conditions;
-use crate::flow::largest_flow;
+use crate::flow::{largest_flow, Arc};
 use crate::fraction::{Fraction, ZERO};
 use crate::sheet::{Gap, Sheet};
 
@@ -15,6 +18,11 @@ struct Descent<'a> {
     sheet: &'a Sheet,
     gaps: Vec<Gap>,
     places: Vec<Fraction>,
+}
+
+/// Whether a placement meets all gaps of a sheet within the limits.
+pub fn has_placement(sheet: &Sheet) -> bool {
+    pushed_right(sheet, &sheet.all_gaps()).is_some()
 }
 
 /// The places of the least move of a sheet within the limits, or nothing where no placement meets all gaps.
@@ -45,10 +53,9 @@ fn pushed_right(sheet: &Sheet, gaps: &[Gap]) -> Option<Vec<i64>> {
     for _ in 0..=sheet.labels() {
         let mut moved = false;
         for gap in gaps {
-            let least = places[gap.left] + gap.distance;
-            if places[gap.right] < least {
-                places[gap.right] = least;
-                moved = true;
+            moved |= push(&mut places, gap.left, gap.right, gap.distance);
+            if gap.exact {
+                moved |= push(&mut places, gap.right, gap.left, -gap.distance);
             }
         }
         if !moved {
@@ -56,6 +63,16 @@ fn pushed_right(sheet: &Sheet, gaps: &[Gap]) -> Option<Vec<i64>> {
         }
     }
     None
+}
+
+/// Moves a label at least so far right of another; whether it moved at all.
+fn push(places: &mut [i64], from: usize, to: usize, distance: i64) -> bool {
+    let least = places[from] + distance;
+    let moves = places[to] < least;
+    if moves {
+        places[to] = least;
+    }
+    moves
 }
 
 impl Descent<'_> {
@@ -135,15 +152,17 @@ impl Descent<'_> {
 
     /// Multipliers for the placement, or groups that can move right and make the cost smaller. A
     /// label left of its wanted place gives 2 × weight × move, one right of it takes, and tight
-    /// gaps carry it from left to right.
+    /// gaps carry it from left to right, exact ones also from right to left.
     fn balance(&self) -> Result<Vec<Fraction>, Vec<Vec<bool>>> {
         let tight: Vec<usize> = (0..self.gaps.len())
             .filter(|&e| self.gaps[e].is_tight(&self.places))
             .collect();
-        let arcs: Vec<(usize, usize)> = tight
-            .iter()
-            .map(|&e| (self.gaps[e].left, self.gaps[e].right))
-            .collect();
+        let arc = |gap: Gap| Arc {
+            from: gap.left,
+            to: gap.right,
+            either_way: gap.exact,
+        };
+        let arcs: Vec<Arc> = tight.iter().map(|&e| arc(self.gaps[e])).collect();
         let surplus = (0..self.places.len())
             .map(|i| -2 * i128::from(self.sheet.weight[i]) * self.scaled_move(i))
             .collect();

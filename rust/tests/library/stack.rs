@@ -1,7 +1,7 @@
 //! Calls on little stack: 32 KiB are enough, as include/dirmoog.h says. Where a call needs more, its thread overruns
 //! the stack, and the tests end there.
 use crate::call::{refused_at, Lent};
-use crate::generate::{sheet, KINDS};
+use crate::generate::{sheet, SHAPES};
 use crate::generated::Case;
 use crate::random::Random;
 use crate::text::writer::listing;
@@ -25,8 +25,8 @@ fn layouts() {
     for seed in 0..900 {
         let _case = Case(seed);
         let mut random = Random::new(seed);
-        let kind = random.pick(&KINDS);
-        let sheet = sheet(&mut random, kind, 40..=48);
+        let shape = random.pick(&SHAPES);
+        let sheet = sheet(&mut random, shape, 40..=48);
         let mut lent = Lent::arbitrary(&mut random, sheet.labels(), sheet.gaps());
         let mut again = lent.clone();
         let answer = on_little(|| lent.call(&sheet));
@@ -42,21 +42,23 @@ fn layouts() {
 fn texts() {
     let mut text = String::new();
     (0..48).for_each(|i| text += &format!("label,{i},-200000,100\r\n"));
-    (0..192).for_each(|_| text += "gap,0,47,-20000\r\n");
+    (0..192).for_each(|_| text += "same,0,47,-20000\r\n");
     let (mut wanted, mut weight) = ([0; 48], [0; 48]);
     let (mut left, mut right, mut distance) = ([0; 192], [0; 192], [0; 192]);
+    let mut kind = [0; 192];
     let mut lists = Lists {
         wanted: &mut wanted,
         weight: &mut weight,
         left: &mut left,
         right: &mut right,
         distance: &mut distance,
+        kind: &mut kind,
     };
     let (labels, gaps) = (48, 192);
     let counts = Counts { labels, gaps };
     let reading = on_little(|| read_sheet(text.as_bytes(), &mut lists));
     assert_eq!(reading, Reading::Sheet(counts));
-    text += "gap,0,47,-";
+    text += "same,0,47,-";
     let reading = on_little(|| read_sheet(text.as_bytes(), &mut lists));
     let told = reading.sheet().expect_err("a bad number");
     assert_eq!((told.refusal.number, told.refusal.place), (14, 241));

@@ -93,6 +93,26 @@ fn crossing_labels_are_listed() {
     );
 }
 
+/// Document 02, Item 6: the parts of each marker stand 240 apart, in whole units too.
+#[test]
+fn two_part_markers_are_listed() {
+    fed(
+        &[&file("two-part-markers.csv")],
+        "place,0,5,1,5\r\nplace,1,245,1,245\r\nplace,2,515,1,515\r\nplace,3,755,1,755\r\n\
+         place,4,2635,2,1318\r\nplace,5,3115,2,1558\r\n\
+         slack,0,0,1\r\nslack,1,0,1\r\nslack,2,0,1\r\nslack,3,585,2\r\nslack,4,0,1\r\n",
+    );
+    fed(
+        &[b"label,0,0,1\r\nlabel,1,10,1\r\nsame,0,1,6\r\n"],
+        "place,0,2,1,2\r\nplace,1,8,1,8\r\nslack,0,0,1\r\n",
+    );
+    fed(
+        &[b"label,0,0,1\r\nlabel,1,0,1\r\nsame,0,1,5\r\ngap,0,1,6\r\n"],
+        "refused,9,0,0\r\n",
+    );
+    fed(&[b"same,0,1,6\r\nSame,0,1,6\r\n"], "refused,13,2,1\r\n");
+}
+
 /// Document 02, Item 5: the line and its bad field; a ring has neither.
 #[test]
 fn bad_fields_are_told() {

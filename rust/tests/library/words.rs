@@ -27,14 +27,14 @@ fn of_text(number: u64, place: u64, field: u64) -> TextRefusal {
     TextRefusal { refusal, field }
 }
 
-/// Each number of the table has the table's word, and the place by its kind.
+/// Each number of the table has the table's word, and the place with what it counts.
 #[test]
 fn words_of_the_table() {
     let header = Path::new(env!("CARGO_MANIFEST_DIR")).join("../include/dirmoog.h");
     let header = std::fs::read_to_string(header).expect("the header");
     let table: Vec<_> = header.lines().filter_map(row).collect();
     let numbers: Vec<u64> = table.iter().map(|row| row.0).collect();
-    assert_eq!(numbers, Vec::from_iter(1..=15));
+    assert_eq!(numbers, Vec::from_iter((1..=15).chain([23])));
     for (number, word, place) in table {
         let words = match (number, place.as_str()) {
             (9, "0") => format!("{word} of 6 gaps"),
@@ -60,6 +60,7 @@ fn words_of_sheets() {
         (9, 0, 1, "ring of 1 gap"),
         (9, 0, 48, "ring of 48 gaps"),
         (12, 0, 0, "bad fraction"),
+        (23, 191, 0, "unknown kind: gap 191"),
     ] {
         assert_eq!(refusal(number, place, ring).to_string(), words);
     }
@@ -90,6 +91,9 @@ fn words_of_any_numbers() {
     for (number, place, field, words) in [
         (0, 3, 3, "refusal 0"),
         (16, 3, 3, "refusal 16"),
+        (22, 3, 3, "refusal 22"),
+        (23, 3, 3, "unknown kind: gap 3"),
+        (24, 3, 3, "refusal 24"),
         (99, 3, 3, "refusal 99"),
         (u64::MAX, 3, 3, "refusal 18446744073709551615"),
         (10, 3, 3, "bad line: line 3"),

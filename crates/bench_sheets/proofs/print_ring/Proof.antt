@@ -5,28 +5,25 @@ use Rattle.bench_sheets.proofs.print_ring.Statement.{statement}
 use Rattle.bench_sheets.proofs.print_ring.Tie as tie
 
 abbrev Inv-loop : tie.InvT-loop
-Inv-loop count ring k₀ t4 t5 k = k ≤ count
+Inv-loop count ring back k₀ t5 k = k ≤ count
 
 abbrev μ-loop : tie.MeasureT-loop
-μ-loop count ring k₀ t4 t5 k = count - k
+μ-loop count ring back k₀ t5 k = count - k
 
 loop-holds : tie.Need-loop-holds Inv-loop μ-loop
 loop-holds c = search needs
 
-slice-aggregate-write-all : tie.Need-slice-aggregate-write-all Inv-loop μ-loop
-slice-aggregate-write-all c = search needs
+mul-print-step : tie.Need-mul-print-step Inv-loop μ-loop
+mul-print-step c = search needs
 
-write-all-requires : tie.Need-write-all-requires Inv-loop μ-loop
-write-all-requires c κs = search needs
+shared-slice-read-print-step : tie.Need-shared-slice-read-print-step Inv-loop μ-loop
+shared-slice-read-print-step c = search needs
 
-mul-print-decimal : tie.Need-mul-print-decimal Inv-loop μ-loop
-mul-print-decimal c = search needs
+shared-slice-read-print-step-2 : tie.Need-shared-slice-read-print-step-2 Inv-loop μ-loop
+shared-slice-read-print-step-2 c = search needs
 
-shared-slice-read-print-decimal : tie.Need-shared-slice-read-print-decimal Inv-loop μ-loop
-shared-slice-read-print-decimal c = search needs
-
-print-decimal-requires : tie.Need-print-decimal-requires Inv-loop μ-loop
-print-decimal-requires c κs = search needs
+print-step-requires : tie.Need-print-step-requires Inv-loop μ-loop
+print-step-requires c κs = search needs
 
 add-k : tie.Need-add-k Inv-loop μ-loop
 add-k c = search needs
@@ -37,11 +34,11 @@ loop-less c = search needs
 loop-again : tie.Need-loop-again Inv-loop μ-loop
 loop-again c = search needs
 
-slice-aggregate-write-all-2 : tie.Need-slice-aggregate-write-all-2 Inv-loop μ-loop
-slice-aggregate-write-all-2 c = search needs
+slice-aggregate-write-all : tie.Need-slice-aggregate-write-all Inv-loop μ-loop
+slice-aggregate-write-all c = search needs
 
-write-all-requires-2 : tie.Need-write-all-requires-2 Inv-loop μ-loop
-write-all-requires-2 c κs = search needs
+write-all-requires : tie.Need-write-all-requires Inv-loop μ-loop
+write-all-requires c κs = search needs
 
 returns : tie.Need-returns Inv-loop μ-loop
 returns c = search needs
@@ -53,14 +50,13 @@ print-ring-spec =
     Inv-loop
     μ-loop
     loop-holds
-    slice-aggregate-write-all
-    write-all-requires
-    mul-print-decimal
-    shared-slice-read-print-decimal
-    print-decimal-requires
+    mul-print-step
+    shared-slice-read-print-step
+    shared-slice-read-print-step-2
+    print-step-requires
     add-k
     loop-less
     loop-again
-    slice-aggregate-write-all-2
-    write-all-requires-2
+    slice-aggregate-write-all
+    write-all-requires
     returns)

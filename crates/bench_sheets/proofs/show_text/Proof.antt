@@ -21,6 +21,9 @@ slice-aggregate-read-sheet-4 c = search needs
 slice-aggregate-read-sheet-5 : tie.Need-slice-aggregate-read-sheet-5
 slice-aggregate-read-sheet-5 c = search needs
 
+slice-aggregate-read-sheet-6 : tie.Need-slice-aggregate-read-sheet-6
+slice-aggregate-read-sheet-6 c = search needs
+
 read-sheet-requires : tie.Need-read-sheet-requires
 read-sheet-requires c κs = search needs
 
@@ -69,6 +72,12 @@ array-share-prefix-distance c = search needs
 slice-aggregate-show-thrice-5 : tie.Need-slice-aggregate-show-thrice-5
 slice-aggregate-show-thrice-5 c = sym (length-take-le _ _ (omega arith))
 
+array-share-prefix-kind : tie.Need-array-share-prefix-kind
+array-share-prefix-kind c = search needs
+
+slice-aggregate-show-thrice-6 : tie.Need-slice-aggregate-show-thrice-6
+slice-aggregate-show-thrice-6 c = sym (length-take-le _ _ (omega arith))
+
 show-thrice-requires : tie.Need-show-thrice-requires
 show-thrice-requires c κs = search needs
 
@@ -84,6 +93,7 @@ show-text-spec =
     slice-aggregate-read-sheet-3
     slice-aggregate-read-sheet-4
     slice-aggregate-read-sheet-5
+    slice-aggregate-read-sheet-6
     read-sheet-requires
     enum-known-found
     enum-told
@@ -100,5 +110,7 @@ show-text-spec =
     slice-aggregate-show-thrice-4
     array-share-prefix-distance
     slice-aggregate-show-thrice-5
+    array-share-prefix-kind
+    slice-aggregate-show-thrice-6
     show-thrice-requires
     returns-4)

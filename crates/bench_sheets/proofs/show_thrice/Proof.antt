@@ -30,8 +30,8 @@ slice-aggregate-show-2 c = sym (length-take-le _ _ (omega arith))
 show-requires-2 : tie.Need-show-requires-2
 show-requires-2 c κs = search needs
 
-array-borrow-prefix-others : tie.Need-array-borrow-prefix-others
-array-borrow-prefix-others c = search needs
+array-borrow-prefix-mixed : tie.Need-array-borrow-prefix-mixed
+array-borrow-prefix-mixed c = search needs
 
 slice-aggregate-show-3 : tie.Need-slice-aggregate-show-3
 slice-aggregate-show-3 c = sym (length-take-le _ _ (omega arith))
@@ -54,7 +54,7 @@ show-thrice-spec =
     array-borrow-prefix-ones
     slice-aggregate-show-2
     show-requires-2
-    array-borrow-prefix-others
+    array-borrow-prefix-mixed
     slice-aggregate-show-3
     show-requires-3
     returns-2)

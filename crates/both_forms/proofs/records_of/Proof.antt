@@ -5,31 +5,34 @@ use Rattle.both_forms.proofs.records_of.Statement.{statement}
 use Rattle.both_forms.proofs.records_of.Tie as tie
 
 abbrev Inv-loop : tie.InvT-loop
-Inv-loop left right distance records₀ e₀ records e = e ≤ 192
+Inv-loop left right distance kind records₀ e₀ records e = e ≤ 192
 
 abbrev μ-loop : tie.MeasureT-loop
-μ-loop left right distance records₀ e₀ records e = 192 - e
+μ-loop left right distance kind records₀ e₀ records e = 192 - e
 
 loop-holds : tie.Need-loop-holds Inv-loop μ-loop
 loop-holds c = search needs
 
-mul-t11 : tie.Need-mul-t11 Inv-loop μ-loop
-mul-t11 c = search needs
+mul-t13 : tie.Need-mul-t13 Inv-loop μ-loop
+mul-t13 c = search needs
 
-array-read-t14 : tie.Need-array-read-t14 Inv-loop μ-loop
-array-read-t14 c = search needs
+array-read-t16 : tie.Need-array-read-t16 Inv-loop μ-loop
+array-read-t16 c = search needs
 
-mul-t15 : tie.Need-mul-t15 Inv-loop μ-loop
-mul-t15 c = search needs
+mul-t17 : tie.Need-mul-t17 Inv-loop μ-loop
+mul-t17 c = search needs
 
-array-read-t18 : tie.Need-array-read-t18 Inv-loop μ-loop
-array-read-t18 c = search needs
+array-read-t20 : tie.Need-array-read-t20 Inv-loop μ-loop
+array-read-t20 c = search needs
 
-mul-t19 : tie.Need-mul-t19 Inv-loop μ-loop
-mul-t19 c = search needs
+mul-t21 : tie.Need-mul-t21 Inv-loop μ-loop
+mul-t21 c = search needs
 
-array-copy-out-t22 : tie.Need-array-copy-out-t22 Inv-loop μ-loop
-array-copy-out-t22 c = search needs
+array-copy-out-t24 : tie.Need-array-copy-out-t24 Inv-loop μ-loop
+array-copy-out-t24 c = search needs
+
+array-read-t27 : tie.Need-array-read-t27 Inv-loop μ-loop
+array-read-t27 c = search needs
 
 mul-records : tie.Need-mul-records Inv-loop μ-loop
 mul-records c = search needs
@@ -56,12 +59,13 @@ records-of-spec =
     Inv-loop
     μ-loop
     loop-holds
-    mul-t11
-    array-read-t14
-    mul-t15
-    array-read-t18
-    mul-t19
-    array-copy-out-t22
+    mul-t13
+    array-read-t16
+    mul-t17
+    array-read-t20
+    mul-t21
+    array-copy-out-t24
+    array-read-t27
     mul-records
     array-set-from-records
     add-e

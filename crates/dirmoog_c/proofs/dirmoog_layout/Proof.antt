@@ -44,11 +44,14 @@ same-length-6 c = search needs
 same-length-7 : tie.Need-same-length-7
 same-length-7 c = search needs
 
+same-length-8 : tie.Need-same-length-8
+same-length-8 c = search needs
+
 returns : tie.Need-returns
 returns c =
     let p = c .before .before .before .before .before .before .before in
-    let d = p .before .before .before .before .before .before .before .before .before .before .before .before in
-    let s = d .before .before .before .before .before .before .before .before .before .before .before .before in
+    let d = p .before .before .before .before .before .before .before .before .before .before .before .before .before .before in
+    let s = d .before .before .before .before .before .before .before .before .before .before .before .before .before .before .before in
     record {
       answer = d .lay-out .result;
       kept = d .lay-out .ensures;
@@ -74,4 +77,5 @@ dirmoog-layout-spec =
     same-length-5
     same-length-6
     same-length-7
+    same-length-8
     returns)

@@ -39,11 +39,17 @@ array-share-prefix-distance c = search needs
 slice-aggregate-answered-5 : tie.Need-slice-aggregate-answered-5
 slice-aggregate-answered-5 c = sym (length-take-le _ _ (omega arith))
 
-array-borrow-prefix-carried : tie.Need-array-borrow-prefix-carried
-array-borrow-prefix-carried c = search needs
+array-share-prefix-kind : tie.Need-array-share-prefix-kind
+array-share-prefix-kind c = search needs
 
 slice-aggregate-answered-6 : tie.Need-slice-aggregate-answered-6
 slice-aggregate-answered-6 c = sym (length-take-le _ _ (omega arith))
+
+array-borrow-prefix-carried : tie.Need-array-borrow-prefix-carried
+array-borrow-prefix-carried c = search needs
+
+slice-aggregate-answered-7 : tie.Need-slice-aggregate-answered-7
+slice-aggregate-answered-7 c = sym (length-take-le _ _ (omega arith))
 
 answered-requires : tie.Need-answered-requires
 answered-requires c κs = search needs
@@ -72,8 +78,10 @@ show-call-spec =
     slice-aggregate-answered-4
     array-share-prefix-distance
     slice-aggregate-answered-5
-    array-borrow-prefix-carried
+    array-share-prefix-kind
     slice-aggregate-answered-6
+    array-borrow-prefix-carried
+    slice-aggregate-answered-7
     answered-requires
     print-way-requires
     print-answer-requires

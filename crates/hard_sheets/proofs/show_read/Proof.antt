@@ -43,6 +43,12 @@ array-share-prefix-distance c = search needs
 slice-aggregate-check-5 : tie.Need-slice-aggregate-check-5
 slice-aggregate-check-5 c = sym (length-take-le _ _ (omega arith))
 
+array-share-prefix-kind : tie.Need-array-share-prefix-kind
+array-share-prefix-kind c = search needs
+
+slice-aggregate-check-6 : tie.Need-slice-aggregate-check-6
+slice-aggregate-check-6 c = sym (length-take-le _ _ (omega arith))
+
 check-requires : tie.Need-check-requires
 check-requires c κs = search needs
 
@@ -57,10 +63,10 @@ returns-3 c = search needs
 
 show-sheet-requires : tie.Need-show-sheet-requires
 show-sheet-requires c κs =
-    let a = c .before .before .before .before .before .before .before .before .before .before .args in
-    limits-checked (a .labels) (a .gaps) (a .t3) (a .t4) (a .t5) (a .t6) (a .t7)
-    (omega arith, omega arith, omega arith, omega arith, omega arith)
-    (subst (FrontsBy (a .labels) (a .gaps) (a .t3) (a .t4) (a .t5) (a .t6) (a .t7)) (c .enum-told .given .1) (c .before .before .check .ensures))
+    let a = c .before .before .before .before .before .before .before .before .before .before .before .args in
+    limits-checked (a .labels) (a .gaps) (a .t3) (a .t4) (a .t5) (a .t6) (a .t7) (a .t8)
+    (omega arith, omega arith, omega arith, omega arith, omega arith, omega arith)
+    (subst (FrontsBy (a .labels) (a .gaps) (a .t3) (a .t4) (a .t5) (a .t6) (a .t7) (a .t8)) (c .enum-told .given .1) (c .before .before .check .ensures))
 
 returns-4 : tie.Need-returns-4
 returns-4 c = search needs
@@ -81,6 +87,8 @@ show-read-spec =
     slice-aggregate-check-4
     array-share-prefix-distance
     slice-aggregate-check-5
+    array-share-prefix-kind
+    slice-aggregate-check-6
     check-requires
     enum-told
     enum-told-2

@@ -73,8 +73,14 @@ abbrev stayed : Stays (lay-out-array.ended .signature .params) (lay-out-array.en
 stayed = handed-on (lay-out-array.ended .signature .params) (lay-out-array.ended .kept)
 
 -- the machine values of the parameters
-abbrev spelt : (κs : Lfts 8) → Spells (typesAt (lay-out-array.signature .params) κs)
-spelt κs = sliced (sliced (array-vals (LL.vals T.the-type T′.the-laws), (uint-vals w8, sliced (sliced (sliced (sliced (sliced (sliced tt))))))))
+abbrev spelt : (κs : Lfts 9) → Spells (typesAt (lay-out-array.signature .params) κs)
+spelt κs = sliced (sliced (
+  array-vals (LL.vals T.the-type T′.the-laws),
+  (
+    uint-vals w8,
+    sliced (sliced (sliced (sliced (sliced (sliced (sliced tt)))))),
+  ),
+))
 
 module _ {M : Type 1} (𝓤 : URA M) (H : Heap 𝓤) (A : Atoms 𝓤) (mem : Memory → SProp 𝓤) (run : Routine → Fun 𝓤) where
   -- the contract that the proof cites
@@ -82,7 +88,7 @@ module _ {M : Type 1} (𝓤 : URA M) (H : Heap 𝓤) (A : Atoms 𝓤) (mem : Mem
   Callee = tripleOf 𝓤 H A lay-out-records.signature (lay-out-records.spec 𝓤 H A mem run)
 
 module _ {M : Type 1} (𝓤 : URA M) (H : Heap 𝓤) (A : Atoms 𝓤) (W : Given 𝓤 H A) (mem : Memory → SProp 𝓤) (run : Routine → Fun 𝓤)
-    (κs : Lfts 8) (qs : Shares 8) (a : Args lay-out-array.signature κs)
+    (κs : Lfts 9) (qs : Shares 9) (a : Args lay-out-array.signature κs)
     (are : Are (typesAt (lay-out-array.signature .params) κs)
     (Ises (typesAt (lay-out-array.signature .params) κs)) a (valss (typesAt (lay-out-array.signature .params) κs) (spelt κs) a)) where
   abbrev vals : Vals lay-out-array.signature κs
@@ -119,19 +125,19 @@ module _ {M : Type 1} (𝓤 : URA M) (H : Heap 𝓤) (A : Atoms 𝓤) (W : Given
     abbrev Left : SProp 𝓤
     Left = sem 𝓤 H A (Kept 𝓤 H A W R b (α ∷ []) count gaps)
 
-    abbrev κs′ : Lfts 9
+    abbrev κs′ : Lfts 10
     κs′ = rest κs (λ x. rest x (λ x. (α ∷ [], x)))
 
-    abbrev qs′ : Shares 9
+    abbrev qs′ : Shares 10
     qs′ = rest qs (λ x. rest x (λ x. (fullShare, x)))
 
     -- the call is over, and so is the loan
-    over : ent 𝓤 (sep 𝓤 (mean 𝓤 H A (tokens 9 κs′ qs′)) Left) (H .⇛ (sep 𝓤 (mean 𝓤 H A (tokens 8 κs qs)) Back))
+    over : ent 𝓤 (sep 𝓤 (mean 𝓤 H A (tokens 10 κs′ qs′)) Left) (H .⇛ (sep 𝓤 (mean 𝓤 H A (tokens 9 κs qs)) Back))
     over =
-        qed W (tokens 9 κs′ qs′ ∷ ‵ (Kept 𝓤 H A W R b (α ∷ []) count gaps) ∷ []) ∵ updating ! $
-        split ! $ move ! (1 ∷ []) $ split ! $ move ! (1 ∷ []) $ split ! $ lft-end ! tt $
-        move ! (0 ∷ 4 ∷ []) $ use2 W (later (raw Back)) (front-back 𝓤 H A W R b tt 256 gaps (α ∷ []) count (is-gaps .1 .0 .1)) $ await ! tt $
-        move ! (1 ∷ []) $ move ! (2 ∷ 0 ∷ []) $ join ! $ move ! (2 ∷ 0 ∷ []) $ join ! $ at-once ! $ done !
+        qed W (tokens 10 κs′ qs′ ∷ ‵ (Kept 𝓤 H A W R b (α ∷ []) count gaps) ∷ []) ∵ updating ! $
+        split ! $ move ! (1 ∷ []) $ split ! $ move ! (1 ∷ []) $ split ! $ lft-end ! tt $ move ! (0 ∷ 4 ∷ []) $
+        use2 W (later (raw Back)) (front-back 𝓤 H A W R b tt 256 gaps (α ∷ []) count (is-gaps .1 .0 .1)) $ await ! tt $ move ! (1 ∷ []) $
+        move ! (2 ∷ 0 ∷ []) $ join ! $ move ! (2 ∷ 0 ∷ []) $ join ! $ at-once ! $ done !
 
     module _ (γ : GName) where
       abbrev lent : RefT (List GapRecord)
@@ -154,13 +160,13 @@ module _ {M : Type 1} (𝓤 : URA M) (H : Heap 𝓤) (A : Atoms 𝓤) (W : Given
           (sep 𝓤 (A .lft (α ∷ []) fullShare) (onEntry 𝓤 H A lay-out-array.signature κs qs a vals))) (Callee 𝓤 H A mem run .pre to)
       asks =
           qed W (‵ (Lent 𝓤 H A W R b (named 2) (α ∷ []) count gaps γ)
-          ∷ ‵ (flft (α ∷ []) fullShare) ∷ (tokens 8 κs qs ⊛ ‵ (owns (typesAt (lay-out-array.signature .params) κs) a vals)) ∷ []) ∵
-          move ! (2 ∷ []) $ split ! $ split ! $ move ! (1 ∷ []) $ split ! $ move ! (1 ∷ []) $ move ! (5 ∷ 0 ∷ []) $ join ! $ move ! (1 ∷ 0 ∷ []) $ join ! $ move ! (1 ∷ 0 ∷ []) $
-          join ! $
+          ∷ ‵ (flft (α ∷ []) fullShare) ∷ (tokens 9 κs qs ⊛ ‵ (owns (typesAt (lay-out-array.signature .params) κs) a vals)) ∷ []) ∵
+          move ! (2 ∷ []) $ split ! $ split ! $ move ! (1 ∷ []) $ split ! $ move ! (1 ∷ []) $ move ! (5 ∷ 0 ∷ []) $ join ! $ move ! (1 ∷ 0 ∷ []) $
+          join ! $ move ! (1 ∷ 0 ∷ []) $ join ! $
           -- [the call's tokens; what the parameters own; the loan]
-          move ! (1 ∷ []) $ fsplit ! $ move ! (1 ∷ []) $ fsplit ! $ move ! (1 ∷ []) $ fsplit ! $ drop ! $ fsplit ! $ drop ! $ move ! (4 ∷ 0 ∷ []) $ fjoin ! $ move ! (1 ∷ 0 ∷ []) $
-          fjoin ! $ move ! (1 ∷ 0 ∷ []) $ fjoin ! $
-          move ! (1 ∷ 0 ∷ []) $ join ! $ nothing ! $ move ! (1 ∷ 0 ∷ []) $ join ! $ done !
+          move ! (1 ∷ []) $ fsplit ! $ move ! (1 ∷ []) $ fsplit ! $ move ! (1 ∷ []) $ fsplit ! $ drop ! $ fsplit ! $ drop ! $ move ! (4 ∷ 0 ∷ []) $
+          fjoin ! $ move ! (1 ∷ 0 ∷ []) $ fjoin ! $ move ! (1 ∷ 0 ∷ []) $ fjoin ! $ move ! (1 ∷ 0 ∷ []) $ join ! $ nothing ! $ move ! (1 ∷ 0 ∷ []) $
+          join ! $ done !
 
       abbrev Last : Type 0
       Last = Lasts lay-out-records.ended κs′ a′
@@ -169,103 +175,147 @@ module _ {M : Type 1} (𝓤 : URA M) (H : Heap 𝓤) (A : Atoms 𝓤) (W : Given
       Said r zs = lay-out-records.clauses 𝓤 H A mem run κs′ a′ .ensures tt r (atExit lay-out-records.ended κs′ a′ zs)
 
       -- what the call leaves is what is owed at exit
-      exits : (r : Answer) (v : Val) → ent 𝓤 (⋆ 𝓤 H A (tokens 8 κs qs ∷ ‵ (N.the-row .own r (v ∷ [])) ∷ raw (Told r) ∷ [])) (Post v)
+      exits : (r : Answer) (v : Val) → ent 𝓤 (⋆ 𝓤 H A (tokens 9 κs qs ∷ ‵ (N.the-row .own r (v ∷ [])) ∷ raw (Told r) ∷ [])) (Post v)
       exits r v =
-          qed W (tokens 8 κs qs ∷ ‵ (N.the-row .own r (v ∷ [])) ∷ raw (Told r) ∷ []) ∵
-          move ! (2 ∷ []) $ use1 W (some (λ (zs : Last). ‵ (lasts lay-out-records.ended κs′ a′ zs) ⊛ raw (Said r zs))) (id⊢ 𝓤 _) $ pick ! (λ zs. split ! $
+          qed W (tokens 9 κs qs ∷ ‵ (N.the-row .own r (v ∷ [])) ∷ raw (Told r) ∷ []) ∵
+          move ! (2 ∷
+          []) $ use1 W (some (λ (zs : Last). ‵ (lasts lay-out-records.ended κs′ a′ zs) ⊛ raw (Said r zs))) (id⊢ 𝓤 _) $ pick ! (λ zs. split ! $
           suffices ! _ (ends-at 𝓤 H A lay-out-array.ended stayed (lay-out-array.clauses 𝓤 H A mem run) W ((κs, qs, tt, a, vals), tt) v r (back zs)
           (all-fit κs (lay-out-array.ended .signature .params) (lay-out-array.ended .kept) a (back zs))) $
           -- [the last values; what the call says; the tokens; the answer]
-          fsplit ! $ move ! (1 ∷ []) $ fsplit ! $ move ! (1 ∷ []) $ nothing ! $ fjoin ! $ move ! (1 ∷ 0 ∷ []) $ fjoin ! $ move ! (1 ∷ 0 ∷ []) $ fjoin ! $
-          move ! (0 ∷ 3 ∷ []) $ join ! $ move ! (2 ∷ 0 ∷ []) $ join ! $ frame ! $ done !)
+          fsplit ! $ move ! (1 ∷ []) $ fsplit ! $ move ! (1 ∷ []) $ nothing ! $ fjoin ! $ move ! (1 ∷ 0 ∷ []) $ fjoin ! $ move ! (1 ∷ 0 ∷ []) $
+          fjoin ! $ move ! (0 ∷ 3 ∷ []) $ join ! $ move ! (2 ∷ 0 ∷ []) $ join ! $ frame ! $ done !)
         where
           back : Last → Lasts lay-out-array.ended κs a
           back zs = rest zs (λ x. rest x (λ x. (tt, (tt, x .1))))
 
   module _ (C : Calls 𝓤 H) (Λ : Loops 𝓤 H) (fm : FmC 𝓤 H (W .laws) C) (known : Triple 𝓤 (C #records·lay-out-records) (Callee 𝓤 H A mem run)) where
-    walk : ent 𝓤 (onEntry 𝓤 H A lay-out-array.signature κs qs a vals) (WpFn 𝓤 H C Λ code.function (flat (typesAt (lay-out-array.signature .params) κs) vals) Post)
+    walk : ent 𝓤 (onEntry 𝓤 H A lay-out-array.signature κs qs a vals) (WpFn 𝓤 H C Λ code.function (flat (typesAt (lay-out-array.signature .params)
+        κs) vals) Post)
     walk =
-        qed W (raw (onEntry 𝓤 H A lay-out-array.signature κs qs a vals) ∷ []) ∵ enter ! C Λ code.function (flat (typesAt (lay-out-array.signature .params) κs) vals) _ $
-        alloc1 ! (λ l₀. alloc1 ! (λ l₁. alloc1 ! (λ l₂. alloc1 ! (λ l₃. alloc1 ! (λ l₄. alloc1 ! (λ l₅. alloc1 ! (λ l₆. alloc1 ! (λ l₇. alloc1 ! (λ l₈. alloc1 ! (λ l₉.
-        alloc1 ! (λ l₁₀. alloc1 ! (λ l₁₁. alloc1 ! (λ l₁₂. alloc1 ! (λ l₁₃. alloc1 ! (λ l₁₄. alloc1 ! (λ l₁₅. alloc1 ! (λ l₁₆. alloc1 ! (λ l₁₇. alloc1 ! (λ l₁₈. alloc1 ! (λ l₁₉.
-        alloc1 ! (λ l₂₀. alloc1 ! (λ l₂₁. alloc1 ! (λ l₂₂. alloc1 ! (λ l₂₃. alloc1 ! (λ l₂₄. alloc1 ! (λ l₂₅. alloc1 ! (λ l₂₆. alloc0 ! $ params1 ! $
-        pass1 ! (init ! 50 refl (tt, (tt, (record { fits = are .0 .0 .1 .0 }, tt)))) $
-        pass1 ! (init ! 48 refl (tt, (tt, (record { fits = are .1 .0 .0 .1 .0 }, tt)))) $
-        pass1 ! (init ! 46 refl (array-typed R (LL.lawful T.the-type T′.the-laws 𝓤 H A W .typed) 256 gaps _ is-gaps .0)) $
-        pass1 ! (init ! 44 refl (tt, byte)) $
-        pass1 ! (init ! 42 refl (tt, (tt, (record { fits = are .1 .1 .1 .1 .0 .0 .1 .0 }, tt)))) $
-        pass1 ! (init ! 40 refl (tt, (tt, (record { fits = are .1 .1 .1 .1 .1 .0 .0 .1 .0 }, tt)))) $
-        pass1 ! (init ! 38 refl (tt, (tt, (record { fits = are .1 .1 .1 .1 .1 .1 .0 .0 .1 .0 }, tt)))) $
-        pass1 ! (init ! 36 refl (tt, (tt, (record { fits = are .1 .1 .1 .1 .1 .1 .1 .0 .0 .1 .0 }, tt)))) $
-        pass1 ! (init ! 34 refl (tt, (tt, (record { fits = are .1 .1 .1 .1 .1 .1 .1 .1 .0 .0 .1 .0 }, tt)))) $
-        pass1 ! (init ! 32 refl (tt, (tt, (record { fits = are .1 .1 .1 .1 .1 .1 .1 .1 .1 .0 .0 .1 .0 }, tt)))) $
+        qed W (raw (onEntry 𝓤 H A lay-out-array.signature κs qs a vals) ∷
+        []) ∵ enter ! C Λ code.function (flat (typesAt (lay-out-array.signature .params) κs) vals) _ $
+        alloc1 ! (λ l₀. alloc1 ! (λ l₁. alloc1 ! (λ l₂. alloc1 ! (λ l₃. alloc1 ! (λ l₄. alloc1 ! (λ l₅.
+        alloc1 ! (λ l₆. alloc1 ! (λ l₇. alloc1 ! (λ l₈. alloc1 ! (λ l₉. alloc1 ! (λ l₁₀. alloc1 ! (λ l₁₁.
+        alloc1 ! (λ l₁₂. alloc1 ! (λ l₁₃. alloc1 ! (λ l₁₄. alloc1 ! (λ l₁₅. alloc1 ! (λ l₁₆. alloc1 ! (λ l₁₇.
+        alloc1 ! (λ l₁₈. alloc1 ! (λ l₁₉. alloc1 ! (λ l₂₀. alloc1 ! (λ l₂₁. alloc1 ! (λ l₂₂. alloc1 ! (λ l₂₃.
+        alloc1 ! (λ l₂₄. alloc1 ! (λ l₂₅. alloc1 ! (λ l₂₆. alloc1 ! (λ l₂₇. alloc1 ! (λ l₂₈. alloc1 ! (λ l₂₉. alloc0 ! $
+        params1 ! $
+        pass1 ! (init ! 56 refl (tt, (tt, (record { fits = are .0 .0 .1 .0 }, tt)))) $
+        pass1 ! (init ! 54 refl (tt, (tt, (record { fits = are .1 .0 .0 .1 .0 }, tt)))) $
+        pass1 ! (init ! 52 refl (array-typed R (LL.lawful T.the-type T′.the-laws 𝓤 H A W .typed) 256 gaps _ is-gaps .0)) $
+        pass1 ! (init ! 50 refl (tt, byte)) $
+        pass1 ! (init ! 48 refl (tt, (tt, (record { fits = are .1 .1 .1 .1 .0 .0 .1 .0 }, tt)))) $
+        pass1 ! (init ! 46 refl (tt, (tt, (record { fits = are .1 .1 .1 .1 .1 .0 .0 .1 .0 }, tt)))) $
+        pass1 ! (init ! 44 refl (tt, (tt, (record { fits = are .1 .1 .1 .1 .1 .1 .0 .0 .1 .0 }, tt)))) $
+        pass1 ! (init ! 42 refl (tt, (tt, (record { fits = are .1 .1 .1 .1 .1 .1 .1 .0 .0 .1 .0 }, tt)))) $
+        pass1 ! (init ! 40 refl (tt, (tt, (record { fits = are .1 .1 .1 .1 .1 .1 .1 .1 .0 .0 .1 .0 }, tt)))) $
+        pass1 ! (init ! 38 refl (tt, (tt, (record { fits = are .1 .1 .1 .1 .1 .1 .1 .1 .1 .0 .0 .1 .0 }, tt)))) $
+        pass1 ! (init ! 36 refl (tt, (tt, (record { fits = are .1 .1 .1 .1 .1 .1 .1 .1 .1 .1 .0 .0 .1 .0 }, tt)))) $
         pass0 ! $
-        -- local k stands at 2 · (26 − k); what is had at entry comes last
-        assigns ! (of-opd ! (load ! (from ! (stop !)) (look ! 46 refl))) (from ! (stop !)) (init ! 30 refl
+        -- local k stands at 2 · (29 − k); what is had at entry comes last
+        assigns ! (of-opd ! (load ! (from ! (stop !)) (look ! 52 refl))) (from ! (stop !)) (init ! 34 refl
         (array-typed R (LL.lawful T.the-type T′.the-laws 𝓤 H A W .typed) 256 gaps _ is-gaps .0)) $
-        assigns ! (un ! (load ! (from ! (stop !)) (look ! 44 refl)) wide) (from ! (stop !)) (init ! 28 refl (tt, wide)) $
-        assigns ! (addr ! (from ! (stop !))) (from ! (stop !)) (init ! 26 refl (tt, tt)) $
-        assigns ! (agg ! (and-then ! (load ! (from ! (stop !)) (look ! 26 refl)) (and-then ! (load ! (from ! (stop !)) (look ! 28 refl)) (no-more !)))) (from ! (stop !))
-        (init ! 24 refl (tt, (tt, (wide, tt)))) $
-        assigns ! (addr ! (from ! (fld ! refl (hop ! (look-in ! 42 (sub ! 0 refl (whole !))) (stop !))))) (from ! (stop !)) (init ! 22 refl (tt, tt)) $
+        assigns ! (un ! (load ! (from ! (stop !)) (look ! 50 refl)) wide) (from ! (stop !)) (init ! 32 refl (tt, wide)) $
+        assigns ! (addr ! (from ! (stop !))) (from ! (stop !)) (init ! 30 refl (tt, tt)) $
+        assigns ! (agg ! (and-then ! (load ! (from ! (stop !)) (look ! 30 refl)) (and-then ! (load ! (from ! (stop !)) (look ! 32 refl)) (no-more
+        !)))) (from ! (stop !))
+        (init ! 28 refl (tt, (tt, (wide, tt)))) $
+        assigns ! (addr ! (from ! (fld ! refl (hop ! (look-in ! 48 (sub ! 0 refl (whole !))) (stop !))))) (from ! (stop !)) (init ! 26 refl (
+          tt,
+          tt,
+        )) $
+        assigns ! (agg ! (and-then ! (load ! (from ! (stop !)) (look ! 26 refl))
+        (and-then ! (load ! (from ! (fld ! refl (stop !))) (look-in ! 48 (sub ! 1 refl (whole !)))) (no-more !)))) (from ! (stop !))
+        (init ! 24 refl (tt, (tt, (record { fits = are .1 .1 .1 .1 .0 .0 .1 .0 }, tt)))) $
+        assigns ! (addr ! (from ! (fld ! refl (hop ! (look-in ! 46 (sub ! 0 refl (whole !))) (stop !))))) (from ! (stop !)) (init ! 22 refl (
+          tt,
+          tt,
+        )) $
         assigns ! (agg ! (and-then ! (load ! (from ! (stop !)) (look ! 22 refl))
-        (and-then ! (load ! (from ! (fld ! refl (stop !))) (look-in ! 42 (sub ! 1 refl (whole !)))) (no-more !)))) (from ! (stop !))
-        (init ! 20 refl (tt, (tt, (record { fits = are .1 .1 .1 .1 .0 .0 .1 .0 }, tt)))) $
-        assigns ! (addr ! (from ! (fld ! refl (hop ! (look-in ! 40 (sub ! 0 refl (whole !))) (stop !))))) (from ! (stop !)) (init ! 18 refl (tt, tt)) $
+        (and-then ! (load ! (from ! (fld ! refl (stop !))) (look-in ! 46 (sub ! 1 refl (whole !)))) (no-more !)))) (from ! (stop !))
+        (init ! 20 refl (tt, (tt, (record { fits = are .1 .1 .1 .1 .1 .0 .0 .1 .0 }, tt)))) $
+        assigns ! (addr ! (from ! (fld ! refl (hop ! (look-in ! 44 (sub ! 0 refl (whole !))) (stop !))))) (from ! (stop !)) (init ! 18 refl (
+          tt,
+          tt,
+        )) $
         assigns ! (agg ! (and-then ! (load ! (from ! (stop !)) (look ! 18 refl))
-        (and-then ! (load ! (from ! (fld ! refl (stop !))) (look-in ! 40 (sub ! 1 refl (whole !)))) (no-more !)))) (from ! (stop !))
-        (init ! 16 refl (tt, (tt, (record { fits = are .1 .1 .1 .1 .1 .0 .0 .1 .0 }, tt)))) $
-        assigns ! (addr ! (from ! (fld ! refl (hop ! (look-in ! 38 (sub ! 0 refl (whole !))) (stop !))))) (from ! (stop !)) (init ! 14 refl (tt, tt)) $
+        (and-then ! (load ! (from ! (fld ! refl (stop !))) (look-in ! 44 (sub ! 1 refl (whole !)))) (no-more !)))) (from ! (stop !))
+        (init ! 16 refl (tt, (tt, (record { fits = are .1 .1 .1 .1 .1 .1 .0 .0 .1 .0 }, tt)))) $
+        assigns ! (addr ! (from ! (fld ! refl (hop ! (look-in ! 42 (sub ! 0 refl (whole !))) (stop !))))) (from ! (stop !)) (init ! 14 refl (
+          tt,
+          tt,
+        )) $
         assigns ! (agg ! (and-then ! (load ! (from ! (stop !)) (look ! 14 refl))
-        (and-then ! (load ! (from ! (fld ! refl (stop !))) (look-in ! 38 (sub ! 1 refl (whole !)))) (no-more !)))) (from ! (stop !))
-        (init ! 12 refl (tt, (tt, (record { fits = are .1 .1 .1 .1 .1 .1 .0 .0 .1 .0 }, tt)))) $
-        assigns ! (addr ! (from ! (fld ! refl (hop ! (look-in ! 36 (sub ! 0 refl (whole !))) (stop !))))) (from ! (stop !)) (init ! 10 refl (tt, tt)) $
+        (and-then ! (load ! (from ! (fld ! refl (stop !))) (look-in ! 42 (sub ! 1 refl (whole !)))) (no-more !)))) (from ! (stop !))
+        (init ! 12 refl (tt, (tt, (record { fits = are .1 .1 .1 .1 .1 .1 .1 .0 .0 .1 .0 }, tt)))) $
+        assigns ! (addr ! (from ! (fld ! refl (hop ! (look-in ! 40 (sub ! 0 refl (whole !))) (stop !))))) (from ! (stop !)) (init ! 10 refl (
+          tt,
+          tt,
+        )) $
         assigns ! (agg ! (and-then ! (load ! (from ! (stop !)) (look ! 10 refl))
-        (and-then ! (load ! (from ! (fld ! refl (stop !))) (look-in ! 36 (sub ! 1 refl (whole !)))) (no-more !)))) (from ! (stop !))
-        (init ! 8 refl (tt, (tt, (record { fits = are .1 .1 .1 .1 .1 .1 .1 .0 .0 .1 .0 }, tt)))) $
-        assigns ! (addr ! (from ! (fld ! refl (hop ! (look-in ! 34 (sub ! 0 refl (whole !))) (stop !))))) (from ! (stop !)) (init ! 6 refl (tt, tt)) $
+        (and-then ! (load ! (from ! (fld ! refl (stop !))) (look-in ! 40 (sub ! 1 refl (whole !)))) (no-more !)))) (from ! (stop !))
+        (init ! 8 refl (tt, (tt, (record { fits = are .1 .1 .1 .1 .1 .1 .1 .1 .0 .0 .1 .0 }, tt)))) $
+        assigns ! (addr ! (from ! (fld ! refl (hop ! (look-in ! 38 (sub ! 0 refl (whole !))) (stop !))))) (from ! (stop !)) (init ! 6 refl (tt, tt)) $
         assigns ! (agg ! (and-then ! (load ! (from ! (stop !)) (look ! 6 refl))
-        (and-then ! (load ! (from ! (fld ! refl (stop !))) (look-in ! 34 (sub ! 1 refl (whole !)))) (no-more !)))) (from ! (stop !))
-        (init ! 4 refl (tt, (tt, (record { fits = are .1 .1 .1 .1 .1 .1 .1 .1 .0 .0 .1 .0 }, tt)))) $
-        assigns ! (addr ! (from ! (fld ! refl (hop ! (look-in ! 32 (sub ! 0 refl (whole !))) (stop !))))) (from ! (stop !)) (init ! 2 refl (tt, tt)) $
+        (and-then ! (load ! (from ! (fld ! refl (stop !))) (look-in ! 38 (sub ! 1 refl (whole !)))) (no-more !)))) (from ! (stop !))
+        (init ! 4 refl (tt, (tt, (record { fits = are .1 .1 .1 .1 .1 .1 .1 .1 .1 .0 .0 .1 .0 }, tt)))) $
+        assigns ! (addr ! (from ! (fld ! refl (hop ! (look-in ! 36 (sub ! 0 refl (whole !))) (stop !))))) (from ! (stop !)) (init ! 2 refl (tt, tt)) $
         assigns ! (agg ! (and-then ! (load ! (from ! (stop !)) (look ! 2 refl))
-        (and-then ! (load ! (from ! (fld ! refl (stop !))) (look-in ! 32 (sub ! 1 refl (whole !)))) (no-more !)))) (from ! (stop !))
-        (init ! 0 refl (tt, (tt, (record { fits = are .1 .1 .1 .1 .1 .1 .1 .1 .1 .0 .0 .1 .0 }, tt)))) $
-        rewrite ! 24 (λ (m : ℕ). ‵ (fat fullShare (sliceTy (tyRef erased imm (pointee (R .written)))) l₁₄ 0 (sliceVal (l₁₁, 0) m))) (sym all-lent) refl $
+        (and-then ! (load ! (from ! (fld ! refl (stop !))) (look-in ! 36 (sub ! 1 refl (whole !)))) (no-more !)))) (from ! (stop !))
+        (init ! 0 refl (tt, (tt, (record { fits = are .1 .1 .1 .1 .1 .1 .1 .1 .1 .1 .0 .0 .1 .0 }, tt)))) $
+        rewrite ! 28 (λ (m : ℕ). ‵ (fat fullShare (sliceTy (tyRef erased imm (pointee (R .written)))) l₁₅ 0 (sliceVal (
+          l₁₂,
+          0,
+        ) m))) (sym all-lent) refl $
         -- the front of the array is lent
-        lft-new ! tt (λ α. move ! (31 ∷ []) $
-        use1 W (later (some (λ (γ : GName). ‵ (Lent 𝓤 H A W R l₁₁ (named 2) (α ∷ []) count gaps γ) ⊛ ‵ (Kept 𝓤 H A W R l₁₁ (α ∷ []) count gaps))))
-        (lends-front 𝓤 H A W R l₁₁ tt 256 gaps (α ∷ []) count (named 2) _ (array-makes 𝓤 H A W R (LL.makes T.the-type T′.the-plain 𝓤 H A) 256) is-gaps (lit< tt, lit< tt)) $
+        lft-new ! tt (λ α. move ! (35 ∷ []) $
+        use1 W (later (some (λ (γ : GName). ‵ (Lent 𝓤 H A W R l₁₂ (named 2) (α ∷ []) count gaps γ) ⊛ ‵ (Kept 𝓤 H A W R l₁₂ (α ∷ []) count gaps))))
+        (lends-front 𝓤 H A W R l₁₂ tt 256 gaps (α ∷
+        []) count (named 2) _ (array-makes 𝓤 H A W R (LL.makes T.the-type T′.the-plain 𝓤 H A) 256) is-gaps (lit< tt, lit< tt)) $
         await ! tt $ pick ! (λ γ. split ! $
-        move ! (0 ∷ 2 ∷ 56 ∷ []) $ use3 W (raw (Callee 𝓤 H A mem run .pre (to l₁₁ α γ))) (asks l₁₁ α γ) $
-        calls-at ! fm (Callee 𝓤 H A mem run) known (to l₁₁ α γ)
-        (and-then ! (load ! (from ! (stop !)) (look ! 51 refl)) (and-then ! (load ! (from ! (stop !)) (look ! 49 refl)) (and-then ! (load ! (from ! (stop !)) (look ! 26 refl))
-        (and-then ! (load ! (from ! (stop !)) (look ! 22 refl)) (and-then ! (load ! (from ! (stop !)) (look ! 18 refl)) (and-then ! (load ! (from ! (stop !)) (look ! 14 refl))
-        (and-then ! (load ! (from ! (stop !)) (look ! 10 refl)) (and-then ! (load ! (from ! (stop !)) (look ! 6 refl))
-        (and-then ! (load ! (from ! (stop !)) (look ! 2 refl)) (no-more !))))))))))
-        (λ v. use1 W (later (some (λ (r : Answer). (tokens 9 (κs′ l₁₁ α) (qs′ l₁₁ α) ⊛ ‵ (N.the-row .own r (v ∷ []))) ⊛ raw (Told l₁₁ α γ r)))) (id⊢ 𝓤 _) $ await ! tt $
+        move ! (0 ∷ 2 ∷ 62 ∷ []) $ use3 W (raw (Callee 𝓤 H A mem run .pre (to l₁₂ α γ))) (asks l₁₂ α γ) $
+        calls-at ! fm (Callee 𝓤 H A mem run) known (to l₁₂ α γ)
+        (and-then ! (load ! (from ! (stop !)) (look ! 57 refl))
+        (and-then ! (load ! (from ! (stop !)) (look ! 55 refl))
+        (and-then ! (load ! (from ! (stop !)) (look ! 30 refl))
+        (and-then ! (load ! (from ! (stop !)) (look ! 26 refl))
+        (and-then ! (load ! (from ! (stop !)) (look ! 22 refl))
+        (and-then ! (load ! (from ! (stop !)) (look ! 18 refl))
+        (and-then ! (load ! (from ! (stop !)) (look ! 14 refl))
+        (and-then ! (load ! (from ! (stop !)) (look ! 10 refl))
+        (and-then ! (load ! (from ! (stop !)) (look ! 6 refl))
+        (and-then ! (load ! (from ! (stop !)) (look ! 2 refl)) (no-more !)))))))))))
+        (λ v. use1 W (later (some (λ (r : Answer). (tokens 10 (κs′ l₁₂ α) (qs′ l₁₂ α) ⊛ ‵ (N.the-row .own r (v ∷
+        []))) ⊛ raw (Told l₁₂ α γ r)))) (id⊢ 𝓤 _) $ await ! tt $
         pick ! (λ r. split ! $ split ! $
         move ! (1 ∷ []) $ peeks ! N.the-row (Is N.the-row) (shows 𝓤 H A N.the-row) r (v ∷ []) (λ is.
-        land ! (from ! (stop !)) (init ! 55 refl (EL.lawful N.the-type N′.the-laws 𝓤 H A W tt .typed r _ is .0)) $
+        land ! (from ! (stop !)) (init ! 61 refl (EL.lawful N.the-type N′.the-laws 𝓤 H A W tt .typed r _ is .0)) $
         -- [the answer; the tokens; what the call says; what was kept of the array; the locals]
-        move ! (1 ∷ 3 ∷ []) $ use2 W (later (tokens 8 κs qs ⊛ some (λ (v : Val). ‵ (fat fullShare (tyArray T′.mir 256) l₁₁ 0 v) ⊛ ‵ (Array R 256 .own gaps (v ∷ []))))) (over l₁₁
+        move ! (1 ∷ 3 ∷
+        []) $ use2 W (later (tokens 9 κs qs ⊛ some (λ (v : Val). ‵ (fat fullShare (tyArray T′.mir 256) l₁₂ 0 v) ⊛ ‵ (Array R 256 .own gaps (v ∷
+        []))))) (over l₁₂
         α) $ await ! tt $ split ! $
         move ! (1 ∷ []) $ pick ! (λ u. split ! $ move ! (1 ∷ []) $ drop ! $
         -- [the array; the tokens; the answer; what the call says; the locals]
-        returns ! (look ! 55 refl) $
-        forget ! 0 refl $ forget ! 55 refl $ forget ! 53 refl $ forget ! 51 refl $ forget ! 49 refl $ forget ! 47 refl $ forget ! 45 refl $ forget ! 43 refl $ forget ! 41 refl $
-        forget ! 39 refl $ forget ! 37 refl $ forget ! 35 refl $ forget ! 32 refl $ forget ! 30 refl $ forget ! 28 refl $ forget ! 26 refl $ forget ! 24 refl $ forget ! 22 refl $
-        forget ! 20 refl $ forget ! 18 refl $ forget ! 16 refl $ forget ! 14 refl $ forget ! 12 refl $ forget ! 10 refl $ forget ! 8 refl $ forget ! 6 refl $ forget ! 4 refl $
-        move ! (55 ∷ 56 ∷ []) $ free1 ! $ move ! (53 ∷ 54 ∷ []) $ free1 ! $ move ! (51 ∷ 52 ∷ []) $ free1 ! $ move ! (49 ∷ 50 ∷ []) $ free1 ! $ move ! (47 ∷ 48 ∷ []) $ free1 ! $
-        move ! (45 ∷ 46 ∷ []) $ free1 ! $ move ! (43 ∷ 44 ∷ []) $ free1 ! $ move ! (41 ∷ 42 ∷ []) $ free1 ! $ move ! (39 ∷ 40 ∷ []) $ free1 ! $ move ! (37 ∷ 38 ∷ []) $ free1 ! $
-        move ! (35 ∷ 36 ∷ []) $ free1 ! $ move ! (0 ∷ 34 ∷ []) $ free1 ! $ move ! (31 ∷ 32 ∷ []) $ free1 ! $ move ! (29 ∷ 30 ∷ []) $ free1 ! $ move ! (27 ∷ 28 ∷ []) $ free1 ! $
-        move ! (25 ∷ 26 ∷ []) $ free1 ! $ move ! (23 ∷ 24 ∷ []) $ free1 ! $ move ! (21 ∷ 22 ∷ []) $ free1 ! $ move ! (19 ∷ 20 ∷ []) $ free1 ! $ move ! (17 ∷ 18 ∷ []) $ free1 ! $
-        move ! (15 ∷ 16 ∷ []) $ free1 ! $ move ! (13 ∷ 14 ∷ []) $ free1 ! $ move ! (11 ∷ 12 ∷ []) $ free1 ! $ move ! (9 ∷ 10 ∷ []) $ free1 ! $ move ! (7 ∷ 8 ∷ []) $ free1 ! $
-        move ! (5 ∷ 6 ∷ []) $ free1 ! $ move ! (3 ∷ 4 ∷ []) $ free1 ! $ free0 ! $
-        by ! (exits l₁₁ α γ r v))))))))))))))))))))))))))))))))))
+        returns ! (look ! 61 refl) $
+        forget ! 0 refl $ forget ! 61 refl $ forget ! 59 refl $ forget ! 57 refl $ forget ! 55 refl $ forget ! 53 refl $ forget ! 51 refl $
+        forget ! 49 refl $ forget ! 47 refl $ forget ! 45 refl $ forget ! 43 refl $ forget ! 41 refl $ forget ! 39 refl $ forget ! 36 refl $
+        forget ! 34 refl $ forget ! 32 refl $ forget ! 30 refl $ forget ! 28 refl $ forget ! 26 refl $ forget ! 24 refl $ forget ! 22 refl $
+        forget ! 20 refl $ forget ! 18 refl $ forget ! 16 refl $ forget ! 14 refl $ forget ! 12 refl $ forget ! 10 refl $ forget ! 8 refl $
+        forget ! 6 refl $ forget ! 4 refl $ move ! (61 ∷ 62 ∷ []) $ free1 ! $ move ! (59 ∷ 60 ∷ []) $ free1 ! $ move ! (57 ∷ 58 ∷ []) $ free1 ! $
+        move ! (55 ∷ 56 ∷ []) $ free1 ! $ move ! (53 ∷ 54 ∷ []) $ free1 ! $ move ! (51 ∷ 52 ∷ []) $ free1 ! $ move ! (49 ∷ 50 ∷ []) $ free1 ! $
+        move ! (47 ∷ 48 ∷ []) $ free1 ! $ move ! (45 ∷ 46 ∷ []) $ free1 ! $ move ! (43 ∷ 44 ∷ []) $ free1 ! $ move ! (41 ∷ 42 ∷ []) $ free1 ! $
+        move ! (39 ∷ 40 ∷ []) $ free1 ! $ move ! (0 ∷ 38 ∷ []) $ free1 ! $ move ! (35 ∷ 36 ∷ []) $ free1 ! $ move ! (33 ∷ 34 ∷ []) $ free1 ! $
+        move ! (31 ∷ 32 ∷ []) $ free1 ! $ move ! (29 ∷ 30 ∷ []) $ free1 ! $ move ! (27 ∷ 28 ∷ []) $ free1 ! $ move ! (25 ∷ 26 ∷ []) $ free1 ! $
+        move ! (23 ∷ 24 ∷ []) $ free1 ! $ move ! (21 ∷ 22 ∷ []) $ free1 ! $ move ! (19 ∷ 20 ∷ []) $ free1 ! $ move ! (17 ∷ 18 ∷ []) $ free1 ! $
+        move ! (15 ∷ 16 ∷ []) $ free1 ! $ move ! (13 ∷ 14 ∷ []) $ free1 ! $ move ! (11 ∷ 12 ∷ []) $ free1 ! $ move ! (9 ∷ 10 ∷ []) $ free1 ! $
+        move ! (7 ∷ 8 ∷ []) $ free1 ! $ move ! (5 ∷ 6 ∷ []) $ free1 ! $ move ! (3 ∷ 4 ∷ []) $ free1 ! $ free0 ! $
+        by ! (exits l₁₂ α γ r v)))))))))))))))))))))))))))))))))))))
 
 module _ {M : Type 1} (𝓤 : URA M) (H : Heap 𝓤) (A : Atoms 𝓤) (W : Given 𝓤 H A) (mem : Memory → SProp 𝓤) (run : Routine → Fun 𝓤) where
-  walks : (C : Calls 𝓤 H) (Λ : Loops 𝓤 H) → FmC 𝓤 H (W .laws) C → Triple 𝓤 (C #records·lay-out-records) (Callee 𝓤 H A mem run) → Walks 𝓤 H A lay-out-array.ended stayed
+  walks : (C : Calls 𝓤 H) (Λ : Loops 𝓤 H) → FmC 𝓤 H (W .laws) C → Triple 𝓤 (C #records·lay-out-records) (Callee 𝓤 H A mem run) → Walks 𝓤 H A
+      lay-out-array.ended stayed
       (WpFn 𝓤 H C Λ code.function) (lay-out-array.clauses 𝓤 H A mem run)
   walks C Λ fm known =
       walked 𝓤 H A lay-out-array.ended stayed (lay-out-array.clauses 𝓤 H A mem run) (WpFn 𝓤 H C Λ code.function) spelt
@@ -273,8 +323,8 @@ module _ {M : Type 1} (𝓤 : URA M) (H : Heap 𝓤) (A : Atoms 𝓤) (W : Given
         array-tells R (LL.vals T.the-type T′.the-laws) (LL.tells T.the-type T′.the-laws) 256,
         (
           uint-tells w8,
-          writes 2 (κs .1 .1 .0) u8 (writes 3 (κs .1 .1 .1 .0) i64 (writes 4 (κs .1 .1 .1 .1 .0) i64 (writes 5 (κs .1 .1 .1 .1 .1 .0) i64 (
-              writes 6 (κs .1 .1 .1 .1 .1 .1 .0) i64 (writes 7 (κs .1 .1 .1 .1 .1 .1 .1 .0) usize tt))))),
+          writes 2 (κs .1 .1 .0) u8 (writes 3 (κs .1 .1 .1 .0) i64 (writes 4 (κs .1 .1 .1 .1 .0) i64 (writes 5 (κs .1 .1 .1 .1 .1 .0) i64 (writes 6
+              (κs .1 .1 .1 .1 .1 .1 .0) i64 (writes 7 (κs .1 .1 .1 .1 .1 .1 .1 .0) usize (writes 8 (κs .1 .1 .1 .1 .1 .1 .1 .1 .0) u8 tt)))))),
         ),
       )))
       (λ κs qs bounds a g are. via 𝓤 _ (fst∗ 𝓤 _ (emp 𝓤)) (walk 𝓤 H A W mem run κs qs a are C Λ fm known))
@@ -283,8 +333,10 @@ meets : {M : Type 1} (𝓤 : URA M) (H : Heap 𝓤) (A : Atoms 𝓤) → Given �
     → Triple 𝓤 (𝓣 .C #records·lay-out-records) (Callee 𝓤 H A mem run)
     → Meets 𝓤 H A lay-out-array.signature (WpFn 𝓤 H (𝓣 .C) (𝓣 .Λ) code.function) (lay-out-array.spec 𝓤 H A mem run)
 meets 𝓤 H A W mem run 𝓣 known =
-    walk-meets 𝓤 H A lay-out-array.ended stayed W (all-go 𝓤 H A W (lay-out-array.ended .signature .params) (lay-out-array.ended .kept)) (lay-out-array.clauses 𝓤 H A mem run)
-    (WpFn 𝓤 H (𝓣 .C) (𝓣 .Λ) code.function) (WpFn-mono 𝓤 H (W .laws) 𝓣 code.function) (walks 𝓤 H A W mem run (𝓣 .C) (𝓣 .Λ) (fmOf 𝓤 H (W .laws) 𝓣) known)
+    walk-meets 𝓤 H A lay-out-array.ended stayed W (all-go 𝓤 H A W (lay-out-array.ended .signature .params) (lay-out-array.ended .kept))
+    (lay-out-array.clauses 𝓤 H A mem run)
+    (WpFn 𝓤 H (𝓣 .C) (𝓣 .Λ) code.function) (WpFn-mono 𝓤 H (W .laws) 𝓣 code.function) (walks 𝓤 H A W mem run (𝓣 .C) (𝓣 .Λ) (fmOf 𝓤 H (W .laws) 𝓣)
+    known)
 
 pub lay-out-array-spec : {M : Type 1} → stated.statement M
 unfolding code.routine tablesOf
@@ -292,5 +344,6 @@ lay-out-array-spec 𝓤 H 𝓜 𝓖 𝓡 =
     entered 𝓤 H (tripleOf 𝓤 H (𝓖 .A) lay-out-array.signature (lay-out-array.spec 𝓤 H (𝓖 .A) (𝓜 .mem) (𝓡 .run)))
     (tables 𝓤 H 𝓜 𝓡 code.env .C) (tables 𝓤 H 𝓜 𝓡 code.env .Λ) #record-arrays·lay-out-array code.function (code.unfolded 𝓤 H 𝓜 𝓡)
     (meets 𝓤 H (𝓖 .A) (givenOf 𝓤 H 𝓜 𝓖) (𝓜 .mem) (𝓡 .run) (tablesOf 𝓤 H 𝓜 (tables 𝓤 H 𝓜 𝓡 code.env))
-    (cited 𝓤 H (Callee 𝓤 H (𝓖 .A) (𝓜 .mem) (𝓡 .run)) 𝓜 𝓡 code.env #records·lay-out-records lay-out-records-def.routine code.calls-records·lay-out-records (lay-out-records-thm.met
+    (cited 𝓤 H (Callee 𝓤 H (𝓖 .A) (𝓜 .mem) (𝓡 .run)) 𝓜 𝓡 code.env #records·lay-out-records lay-out-records-def.routine
+    code.calls-records·lay-out-records (lay-out-records-thm.met
     𝓤 H 𝓜 𝓖 𝓡)))

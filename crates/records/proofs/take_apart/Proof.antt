@@ -9,10 +9,10 @@ use Rattle.records.proofs.take_apart.Statement.{statement}
 use Rattle.records.proofs.take_apart.Tie as tie
 
 abbrev Inv-loop : tie.InvT-loop
-Inv-loop left₀ right₀ distance₀ kept k₀ left right distance k = (k ≤ 192) × ApartTo k kept left right distance
+Inv-loop left₀ right₀ distance₀ kind₀ kept k₀ left right distance kind k = (k ≤ 192) × ApartTo k kept left right distance kind
 
 abbrev μ-loop : tie.MeasureT-loop
-μ-loop left₀ right₀ distance₀ kept k₀ left right distance k = 192 - k
+μ-loop left₀ right₀ distance₀ kind₀ kept k₀ left right distance kind k = 192 - k
 
 measured-gap-indices-requires : tie.Need-measured-gap-indices-requires Inv-loop μ-loop
 measured-gap-indices-requires c κs = tt
@@ -23,8 +23,16 @@ measured-gap-indices-requires-2 c κs = tt
 measured-gaps-requires : tie.Need-measured-gaps-requires Inv-loop μ-loop
 measured-gaps-requires c κs = tt
 
+measured-gap-bytes-requires : tie.Need-measured-gap-bytes-requires Inv-loop μ-loop
+measured-gap-bytes-requires c κs = tt
+
 loop-holds : tie.Need-loop-holds Inv-loop μ-loop
-loop-holds c = (omega arith, apart-start _ (c .before .before .before .before .measured-gap-indices .ensures) (c .before .before .measured-gap-indices2 .ensures) (c .measured-gaps .ensures))
+loop-holds c =
+    let g = c .before .before in (
+      omega arith,
+      apart-start _ (g .before .before .before .before .measured-gap-indices .ensures) (g .before .before .measured-gap-indices2 .ensures)
+          (g .measured-gaps .ensures) (c .measured-gap-bytes .ensures),
+    )
 
 mul-gap : tie.Need-mul-gap Inv-loop μ-loop
 mul-gap c = omega arith
@@ -50,6 +58,9 @@ mul-d c = omega arith
 element-set-from-d : tie.Need-element-set-from-d Inv-loop μ-loop
 element-set-from-d c = omega arith
 
+element-write-kind : tie.Need-element-write-kind Inv-loop μ-loop
+element-write-kind c = omega arith
+
 add-k : tie.Need-add-k Inv-loop μ-loop
 add-k c = omega arith
 
@@ -71,6 +82,7 @@ take-apart-spec =
     measured-gap-indices-requires
     measured-gap-indices-requires-2
     measured-gaps-requires
+    measured-gap-bytes-requires
     loop-holds
     mul-gap
     array-copy-out-gap
@@ -80,6 +92,7 @@ take-apart-spec =
     element-write-right
     mul-d
     element-set-from-d
+    element-write-kind
     add-k
     loop-less
     loop-again

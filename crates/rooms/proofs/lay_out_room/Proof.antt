@@ -1,7 +1,6 @@
 -- `rooms::lay_out_room` meets its contract: the call's promise is about the buffers that it was lent, of which the room is made.
 use mathlib.Core.Path.{sym}
 use native.Mathlib.Omega.{arith}
-use lib.ListN.{drop}
 use mir.ValLaws.{toZ-ofZ}
 use mir.Syntax.{w64}
 use lib.Seq.{length-take-le}
@@ -31,6 +30,9 @@ slice-aggregate-lay-out-array-5 c = search needs
 slice-aggregate-lay-out-array-6 : tie.Need-slice-aggregate-lay-out-array-6
 slice-aggregate-lay-out-array-6 c = search needs
 
+slice-aggregate-lay-out-array-7 : tie.Need-slice-aggregate-lay-out-array-7
+slice-aggregate-lay-out-array-7 c = search needs
+
 lay-out-array-requires : tie.Need-lay-out-array-requires
 lay-out-array-requires c κs = search needs
 
@@ -39,9 +41,9 @@ new-requires c κs = search needs
 
 returns : tie.Need-returns
 returns c =
-    let told = c .before .before .before .before .before .before .before .lay-out-array in
-    let s = c .before .before .before .before .before .before .before .before .before .before .before .before .before .before in
-    let front = as-left (s .args .count) (told .last .1 .1 .1 .1 .0) (drop (s .args .count) (s .args .t2)) (s .args .t2) in
+    let told = c .before .before .before .before .before .before .before .before .lay-out-array in
+    let s = c .before .before .before .before .before .before .before .before .before .before .before .before .before .before .before .before in
+    let front = as-left (s .args .count) (told .last .1 .1 .1 .1 .0) (s .args .t2) in
     let after = front (told .kept .1 .1 .1 .1 .0) (c .new .ensures) (omega (arith, s .good .1 .0, s .fits .count)) in
     promised after (rw (toZ-ofZ w64 (s .args .fill) (s .fits .fill)) at (told .ensures))
 
@@ -56,6 +58,7 @@ lay-out-room-spec =
     slice-aggregate-lay-out-array-4
     slice-aggregate-lay-out-array-5
     slice-aggregate-lay-out-array-6
+    slice-aggregate-lay-out-array-7
     lay-out-array-requires
     new-requires
     returns)

@@ -18,67 +18,83 @@ use Rattle.sheet_run.proofs.lay_out_read.Tie as tie
 
 -- the lists that the sheet was read into
 abbrev read-into : tie.Start → Lists
-read-into s = record { wanted = now (s .args .wanted); weight = now (s .args .weight); left = now (s .args .left); right = now (s .args .right); distance = now (s .args .distance) }
+read-into s = record {
+  wanted = now (s .args .wanted);
+  weight = now (s .args .weight);
+  left = now (s .args .left);
+  right = now (s .args .right);
+  distance = now (s .args .distance);
+  kind = now (s .args .kind);
+}
 
 -- what is lent to write, with this part of a carried record
 abbrev over : tie.Start → List ℕ → Written
 over s carried =
-    record { place-num = now (s .args .place-num); place-den = now (s .args .place-den); mult-num = zeros 192; mult-den = zeros 192; ring = replicate 48 0; carried = carried }
+    record { place-num = now (s .args .place-num); place-den = now (s .args .place-den); mult-num = zeros 192; mult-den = zeros 192; ring = replicate 48 0; back = replicate 48 0; carried = carried }
 
 -- what the layout left
 abbrev left-by : tie.After-lay-out → Written
 left-by d =
     let l = d .lay-out .last in
     record {
-      place-num = l .1 .1 .1 .1 .1 .1 .0;
-      place-den = l .1 .1 .1 .1 .1 .1 .1 .0;
-      mult-num = l .1 .1 .1 .1 .1 .1 .1 .1 .0;
-      mult-den = l .1 .1 .1 .1 .1 .1 .1 .1 .1 .0;
-      ring = l .1 .1 .1 .1 .1 .1 .1 .1 .1 .1 .0;
-      carried = l .1 .1 .1 .1 .1 .0;
+      place-num = l .1 .1 .1 .1 .1 .1 .1 .0;
+      place-den = l .1 .1 .1 .1 .1 .1 .1 .1 .0;
+      mult-num = l .1 .1 .1 .1 .1 .1 .1 .1 .1 .0;
+      mult-den = l .1 .1 .1 .1 .1 .1 .1 .1 .1 .1 .0;
+      ring = l .1 .1 .1 .1 .1 .1 .1 .1 .1 .1 .1 .0;
+      back = l .1 .1 .1 .1 .1 .1 .1 .1 .1 .1 .1 .1 .0;
+      carried = l .1 .1 .1 .1 .1 .1 .0;
     }
 
 slice-aggregate-lay-out : tie.Need-slice-aggregate-lay-out
 slice-aggregate-lay-out c =
-    let s = c .before .before .before in
+    let s = c .before .before .before .before in
     sym (length-take-le (s .args .counts .labels) (now (s .args .wanted)) (omega (arith, s .pre .labels, s .pre .wanted)))
 
 slice-aggregate-lay-out-2 : tie.Need-slice-aggregate-lay-out-2
 slice-aggregate-lay-out-2 c =
-    let s = c .before .before .before .before in
+    let s = c .before .before .before .before .before in
     sym (length-take-le (s .args .counts .labels) (now (s .args .weight)) (omega (arith, s .pre .labels, s .pre .weight)))
 
 slice-aggregate-lay-out-3 : tie.Need-slice-aggregate-lay-out-3
 slice-aggregate-lay-out-3 c =
-    let s = c .before .before .before .before .before in
+    let s = c .before .before .before .before .before .before in
     sym (length-take-le (s .args .counts .gaps) (now (s .args .left)) (omega (arith, s .pre .gaps, s .pre .left)))
 
 slice-aggregate-lay-out-4 : tie.Need-slice-aggregate-lay-out-4
 slice-aggregate-lay-out-4 c =
-    let s = c .before .before .before .before .before .before in
+    let s = c .before .before .before .before .before .before .before in
     sym (length-take-le (s .args .counts .gaps) (now (s .args .right)) (omega (arith, s .pre .gaps, s .pre .right)))
 
 slice-aggregate-lay-out-5 : tie.Need-slice-aggregate-lay-out-5
 slice-aggregate-lay-out-5 c =
-    let s = c .before .before .before .before .before .before .before in
+    let s = c .before .before .before .before .before .before .before .before in
     sym (length-take-le (s .args .counts .gaps) (now (s .args .distance)) (omega (arith, s .pre .gaps, s .pre .distance)))
+
+slice-aggregate-lay-out-6 : tie.Need-slice-aggregate-lay-out-6
+slice-aggregate-lay-out-6 c =
+    let s = c .before .before .before .before .before .before .before .before .before in
+    sym (length-take-le (s .args .counts .gaps) (now (s .args .kind)) (omega (arith, s .pre .gaps, s .pre .kind)))
 
 array-borrow-prefix-carried : tie.Need-array-borrow-prefix-carried
 array-borrow-prefix-carried c = search needs
 
-slice-aggregate-lay-out-6 : tie.Need-slice-aggregate-lay-out-6
-slice-aggregate-lay-out-6 c =
-    let s = c .before .before .before .before .before .before .before .before in
-    sym (length-take-le (s .args .counts .gaps) _ (s .pre .gaps))
-
 slice-aggregate-lay-out-7 : tie.Need-slice-aggregate-lay-out-7
-slice-aggregate-lay-out-7 c = search needs
+slice-aggregate-lay-out-7 c =
+    let s = c .before .before .before .before .before .before .before .before .before .before in
+    sym (length-take-le (s .args .counts .gaps) _ (s .pre .gaps))
 
 slice-aggregate-lay-out-8 : tie.Need-slice-aggregate-lay-out-8
 slice-aggregate-lay-out-8 c = search needs
 
 slice-aggregate-lay-out-9 : tie.Need-slice-aggregate-lay-out-9
 slice-aggregate-lay-out-9 c = search needs
+
+slice-aggregate-lay-out-10 : tie.Need-slice-aggregate-lay-out-10
+slice-aggregate-lay-out-10 c = search needs
+
+slice-aggregate-lay-out-11 : tie.Need-slice-aggregate-lay-out-11
+slice-aggregate-lay-out-11 c = search needs
 
 lay-out-requires : tie.Need-lay-out-requires
 lay-out-requires c κs = search needs
@@ -91,8 +107,8 @@ same-length-2 c = search needs
 
 returns : tie.Need-returns
 returns c =
-    let s = c .before .before .before .before .before .before .before .before .before .before .before .before .before .before .before .before .before .before .before .before in
-    let d = c .before .before .before .before .before .before in
+    let d = c .before .before .before .before .before .before .before in
+    let s = d .before .before .before .before .before .before .before .before .before .before .before .before .before .before .before .before .before in
     record {
       after = left-by d;
       promise =
@@ -111,11 +127,13 @@ lay-out-read-spec =
     slice-aggregate-lay-out-3
     slice-aggregate-lay-out-4
     slice-aggregate-lay-out-5
-    array-borrow-prefix-carried
     slice-aggregate-lay-out-6
+    array-borrow-prefix-carried
     slice-aggregate-lay-out-7
     slice-aggregate-lay-out-8
     slice-aggregate-lay-out-9
+    slice-aggregate-lay-out-10
+    slice-aggregate-lay-out-11
     lay-out-requires
     same-length
     same-length-2

@@ -14,22 +14,29 @@ use Rattle.sheet_run.proofs.print_read.Tie as tie
 
 -- the lists that the sheet was read into
 abbrev read-into : tie.Start → Lists
-read-into s = record { wanted = now (s .args .wanted); weight = now (s .args .weight); left = now (s .args .left); right = now (s .args .right); distance = now (s .args .distance) }
+read-into s = record {
+  wanted = now (s .args .wanted);
+  weight = now (s .args .weight);
+  left = now (s .args .left);
+  right = now (s .args .right);
+  distance = now (s .args .distance);
+  kind = now (s .args .kind);
+}
 
 -- the places that the layout left
 abbrev nums : tie.After-lay-out-read → List ℤ
-nums d = d .lay-out-read .last .1 .1 .1 .1 .1 .1 .0
+nums d = d .lay-out-read .last .1 .1 .1 .1 .1 .1 .1 .0
 
 abbrev dens : tie.After-lay-out-read → List ℤ
-dens d = d .lay-out-read .last .1 .1 .1 .1 .1 .1 .1 .0
+dens d = d .lay-out-read .last .1 .1 .1 .1 .1 .1 .1 .1 .0
 
 -- they are as many as were lent
 module _ (d : tie.After-lay-out-read) where
   nums-long : length (nums d) ≡ 48
-  nums-long = omega (arith, d .lay-out-read .kept .1 .1 .1 .1 .1 .1 .0)
+  nums-long = omega (arith, d .lay-out-read .kept .1 .1 .1 .1 .1 .1 .1 .0)
 
   dens-long : length (dens d) ≡ 48
-  dens-long = omega (arith, d .lay-out-read .kept .1 .1 .1 .1 .1 .1 .1 .0)
+  dens-long = omega (arith, d .lay-out-read .kept .1 .1 .1 .1 .1 .1 .1 .1 .0)
 
 slice-aggregate-lay-out-read : tie.Need-slice-aggregate-lay-out-read
 slice-aggregate-lay-out-read c = search needs
@@ -46,7 +53,7 @@ array-share-prefix-place-num c = search needs
 slice-aggregate-print : tie.Need-slice-aggregate-print
 slice-aggregate-print c =
     let d = c .before .before .before in
-    let s = c .before .before .before .before .before .before .before .before in
+    let s = c .before .before .before .before .before .before .before .before .before in
     sym (length-take-le (s .args .counts .labels) (nums d) (omega (arith, s .pre .labels, nums-long d)))
 
 array-share-prefix-place-den : tie.Need-array-share-prefix-place-den
@@ -55,28 +62,28 @@ array-share-prefix-place-den c = search needs
 slice-aggregate-print-2 : tie.Need-slice-aggregate-print-2
 slice-aggregate-print-2 c =
     let d = c .before .before .before .before in
-    let s = c .before .before .before .before .before .before .before .before .before in
+    let s = c .before .before .before .before .before .before .before .before .before .before in
     sym (length-take-le (s .args .counts .labels) (dens d) (omega (arith, s .pre .labels, dens-long d)))
 
 slice-aggregate-print-3 : tie.Need-slice-aggregate-print-3
 slice-aggregate-print-3 c =
-    let s = c .before .before .before .before .before .before .before .before .before .before in
+    let s = c .before .before .before .before .before .before .before .before .before .before .before in
     sym (length-take-le (s .args .counts .gaps) (now (s .args .left)) (omega (arith, s .pre .gaps, s .pre .left)))
 
 slice-aggregate-print-4 : tie.Need-slice-aggregate-print-4
 slice-aggregate-print-4 c =
-    let s = c .before .before .before .before .before .before .before .before .before .before .before in
+    let s = c .before .before .before .before .before .before .before .before .before .before .before .before in
     sym (length-take-le (s .args .counts .gaps) (now (s .args .right)) (omega (arith, s .pre .gaps, s .pre .right)))
 
 slice-aggregate-print-5 : tie.Need-slice-aggregate-print-5
 slice-aggregate-print-5 c =
-    let s = c .before .before .before .before .before .before .before .before .before .before .before .before in
+    let s = c .before .before .before .before .before .before .before .before .before .before .before .before .before in
     sym (length-take-le (s .args .counts .gaps) (now (s .args .distance)) (omega (arith, s .pre .gaps, s .pre .distance)))
 
 print-requires : tie.Need-print-requires
 print-requires c κs =
     let d = c .before .before .before .before .before .before .before .before in
-    let s = c .before .before .before .before .before .before .before .before .before .before .before .before .before in (
+    let s = c .before .before .before .before .before .before .before .before .before .before .before .before .before .before in (
       within-read (s .args .counts) (read-into s) (nums d) (dens d) (s .pre) (nums-long d) (dens-long d),
       answered-most (s .args .counts) (read-into s) (d .lay-out-read .result) (nums d) (dens d) (d .lay-out-read .ensures) (s .pre),
     )
@@ -84,7 +91,7 @@ print-requires c κs =
 returns : tie.Need-returns
 returns c =
     let d = c .before .before .before .before .before .before .before .before .before in
-    let s = c .before .before .before .before .before .before .before .before .before .before .before .before .before .before in
+    let s = c .before .before .before .before .before .before .before .before .before .before .before .before .before .before .before in
     printed-read (s .args .counts) (read-into s) (d .lay-out-read .result) (nums d) (dens d) (d .lay-out-read .ensures) (now (s .args .out)) _ _ (c .print .ensures)
 
 pub print-read-spec : {M : Type 1} → statement M

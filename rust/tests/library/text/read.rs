@@ -1,34 +1,37 @@
 //! The library's reader beside the second one.
 use super::reader::{read, Refused};
 use super::typed::{damage, misplaced, slipped, typed, Slipped};
-use crate::generate::{sheet, BLANK_WEIGHT, KINDS};
+use crate::generate::{sheet, BLANK_WEIGHT, SHAPES};
 use crate::generated::Case;
 use crate::random::Random;
-use crate::sheet::{labels_text, Sheet};
+use crate::sheet::{labels_text, Sheet, AT_LEAST, EXACTLY};
 use dirmoog::{read_sheet, Counts, Lists, Reading, Refusal, TextRefusal};
 use std::collections::BTreeMap;
 
 /// Lists of arbitrary contents with these lengths.
-fn any_lists(random: &mut Random, lengths: [usize; 5]) -> Sheet {
+fn any_lists(random: &mut Random, lengths: [usize; 6]) -> Sheet {
     let mut signed = |count: usize| (0..count).map(|_| random.next() as i64).collect();
     let (wanted, weight, distance) = (signed(lengths[0]), signed(lengths[1]), signed(lengths[4]));
     let mut numbers = |count: usize| (0..count).map(|_| random.next()).collect();
+    let (left, right) = (numbers(lengths[2]), numbers(lengths[3]));
     Sheet {
         wanted,
         weight,
-        left: numbers(lengths[2]),
-        right: numbers(lengths[3]),
+        left,
+        right,
         distance,
+        kind: (0..lengths[5]).map(|_| random.next() as u8).collect(),
     }
 }
 
-fn lengths(lists: &Sheet) -> [usize; 5] {
+fn lengths(lists: &Sheet) -> [usize; 6] {
     [
         lists.wanted.len(),
         lists.weight.len(),
         lists.left.len(),
         lists.right.len(),
         lists.distance.len(),
+        lists.kind.len(),
     ]
 }
 
@@ -71,6 +74,7 @@ fn expected(text: &[u8], before: &Sheet) -> (Reading, Sheet) {
         left: filled(&sheet.left, &before.left),
         right: filled(&sheet.right, &before.right),
         distance: filled(&sheet.distance, &before.distance),
+        kind: filled(&sheet.kind, &before.kind),
     };
     (Reading::Sheet(counts), after)
 }
@@ -83,6 +87,7 @@ pub fn read_into(text: &[u8], lists: &mut Sheet) -> Reading {
         left: &mut lists.left,
         right: &mut lists.right,
         distance: &mut lists.distance,
+        kind: &mut lists.kind,
     };
     read_sheet(text, &mut lent)
 }
@@ -104,7 +109,7 @@ fn check(text: &[u8], before: &Sheet) -> Refused {
 fn lists_for(random: &mut Random, sheet: &Sheet) -> Sheet {
     let mut room = lengths(sheet).map(|length| length + random.below(4));
     if random.once_in(8) {
-        let list = random.below(5);
+        let list = random.below(6);
         room[list] = random.below(room[list] + 1);
     }
     any_lists(random, room)
@@ -116,9 +121,9 @@ fn run(seed: u64, cases: u64, damages: usize) -> BTreeMap<u64, u64> {
     for seed in seed..seed + cases {
         let _case = Case(seed);
         let mut random = Random::new(seed);
-        let kind = random.pick(&KINDS);
+        let shape = random.pick(&SHAPES);
         let most = random.pick(&[3, 3, 10, 48]);
-        let sheet = sheet(&mut random, kind, 0..=most);
+        let sheet = sheet(&mut random, shape, 0..=most);
         let mut text = typed(&mut random, &sheet);
         for _ in 0..damages {
             damage(&mut random, &mut text);
@@ -148,45 +153,61 @@ fn damaged_texts() {
     assert!(once[&15] > 200 && thrice[&15] > 80);
 }
 
-/// Checks so many generated texts with slips: what must be answered is known from where the slips were made. Counts the
-/// answers by number and field, and those behind more than 48 labels, which 1 would refuse.
-fn run_slips(
-    seed: u64,
-    cases: u64,
-    slips: impl Fn(&mut Random, &Sheet) -> Slipped,
-) -> [BTreeMap<(u64, u64), u64>; 2] {
-    let mut counts = [BTreeMap::new(), BTreeMap::new()];
+/// Answers by number and field: all, those behind more than 48 labels, which 1 would refuse, and those to the line of an
+/// exact gap.
+#[derive(Default)]
+struct Answers {
+    all: BTreeMap<(u64, u64), u64>,
+    beyond: BTreeMap<(u64, u64), u64>,
+    exact: BTreeMap<(u64, u64), u64>,
+}
+
+/// Checks so many generated texts with slips: what must be answered is known from where the slips were made.
+fn run_slips(seed: u64, cases: u64, slips: impl Fn(&mut Random, &Sheet) -> Slipped) -> Answers {
+    let mut answers = Answers::default();
     for seed in seed..seed + cases {
         let _case = Case(seed);
         let mut random = Random::new(seed);
-        let kind = random.pick(&KINDS);
+        let shape = random.pick(&SHAPES);
         let labels = random.pick(&[(1, 3), (1, 10), (11, 48), (49, 70)]);
-        let sheet = sheet(&mut random, kind, labels.0..=labels.1);
-        let Slipped { text, told, labels } = slips(&mut random, &sheet);
+        let sheet = sheet(&mut random, shape, labels.0..=labels.1);
+        let Slipped {
+            text,
+            told,
+            labels,
+            exact,
+        } = slips(&mut random, &sheet);
         let lists = lists_for(&mut random, &sheet);
         assert_eq!(check(&text, &lists), told, "{}", text.escape_ascii());
         let (number, _, field) = told;
-        for count in &mut counts[..if labels > 48 { 2 } else { 1 }] {
-            *count.entry((number, field)).or_insert(0) += 1;
-        }
+        let count = |counts: &mut BTreeMap<_, _>, counted: bool| {
+            *counts.entry((number, field)).or_insert(0) += u64::from(counted);
+        };
+        count(&mut answers.all, true);
+        count(&mut answers.beyond, labels > 48);
+        count(&mut answers.exact, exact);
     }
-    counts
+    answers
 }
 
 #[test]
 fn slipped_texts() {
-    let [all, beyond] = run_slips(26_000_000, 60_000, slipped);
+    let Answers { all, beyond, exact } = run_slips(26_000_000, 60_000, slipped);
     println!("texts with slips, by number and field: {all:?}");
     println!("those behind more than 48 labels: {beyond:?}");
+    println!("those to the line of an exact gap: {exact:?}");
     for answer in [(10, 0), (13, 1), (14, 2), (14, 3), (14, 4), (15, 2)] {
         assert!(all[&answer] > 4_000 && beyond[&answer] > 300, "{answer:?}");
+    }
+    for answer in [(10, 0), (13, 1), (14, 2), (14, 3), (14, 4)] {
+        assert!(exact[&answer] > 300, "{answer:?}");
     }
     assert!(all[&(11, 0)] > 1_000);
 }
 
 #[test]
 fn misplaced_labels() {
-    let [all, beyond] = run_slips(27_000_000, 10_000, misplaced);
+    let Answers { all, beyond, .. } = run_slips(27_000_000, 10_000, misplaced);
     println!(
         "labels typed twice or left out, by number and field: {all:?}, behind more than 48 {beyond:?}"
     );
@@ -207,7 +228,7 @@ fn many_records() {
     ] {
         let mut sheet = Sheet::default();
         (0..labels).for_each(|i| sheet.label(i, [1, BLANK_WEIGHT][i as usize % 2]));
-        (0..gaps).for_each(|_| sheet.gap(0, 0, 0));
+        (0..gaps).for_each(|e| sheet.add(0, 0, 0, [AT_LEAST, EXACTLY][e % 2]));
         let text = typed(&mut random, &sheet);
         let room = lengths(&sheet).map(|length| length + 1);
         let lists = any_lists(&mut random, room);
@@ -217,10 +238,26 @@ fn many_records() {
     }
 }
 
+/// The list of kinds is too short, and all others have room: 4 covers it too.
+#[test]
+fn short_kinds() {
+    let mut random = Random::new(29_000_000);
+    for text in [
+        &b"same,0,0,0\nsame,0,0,0\n"[..],
+        b"gap,0,0,0\nsame,0,0,0\n",
+        b"gap,0,0,0\ngap,0,0,0\n",
+    ] {
+        for (kinds, number) in [(0, 4), (1, 4), (2, 0), (3, 0)] {
+            let lists = any_lists(&mut random, [9, 9, 9, 9, 9, kinds]);
+            assert_eq!(check(text, &lists), (number, 0, 0));
+        }
+    }
+}
+
 /// A bad line far behind the last that a byte could count.
 #[test]
 fn bad_line_far_behind() {
-    let lists = any_lists(&mut Random::new(28_000_000), [1; 5]);
+    let lists = any_lists(&mut Random::new(28_000_000), [1; 6]);
     let labels = labels_text(300) + "label,44,0,1\n";
     assert_eq!(check(labels.as_bytes(), &lists), (15, 301, 2));
     let gaps = "gap,0,0,0\n".repeat(1_000) + "x\n";
@@ -230,7 +267,7 @@ fn bad_line_far_behind() {
 /// A text of 16,384 bytes is read, and one byte more is refused whatever it holds.
 #[test]
 fn longest_text() {
-    let lists = any_lists(&mut Random::new(24_000_000), [1; 5]);
+    let lists = any_lists(&mut Random::new(24_000_000), [1; 6]);
     let mut long = b"label,000000000,000000000,000000001\n".repeat(456);
     long.truncate(16_384);
     assert_eq!(check(&long, &lists), (15, 2, 2));
@@ -242,7 +279,7 @@ fn longest_text() {
 }
 
 /// Texts without a bad line.
-const GOOD_LINES: [&[u8]; 9] = [
+const GOOD_LINES: [&[u8]; 13] = [
     b"label,0,5,2",
     b"label,0,-5,",
     b"label,000,-000,1\r\n",
@@ -252,10 +289,14 @@ const GOOD_LINES: [&[u8]; 9] = [
     b"label,0,-999999999,999999999\n",
     b"gap,0,0,0\ngap,0,0,0",
     b"gap,0,0,-0\r\ngap,0,0,0\n",
+    b"same,7,9,-1\n",
+    b"same,000,0,-999999999\r\n",
+    b"same,0,0,0\ngap,0,0,0\nsame,0,0,0",
+    b"gap,0,0,0\nsame,0,0,0\r\nlabel,0,0,\n",
 ];
 
 /// Texts whose first line is bad, each with what documents 01 and 02 say of it: the number and the field.
-const BAD_LINES: [(&[u8], u64, u64); 30] = [
+const BAD_LINES: [(&[u8], u64, u64); 43] = [
     (b"label,1,5,2", 15, 2),
     (b"label,0,5", 10, 0),
     (b"label,0,5,2,", 10, 0),
@@ -287,11 +328,25 @@ const BAD_LINES: [(&[u8], u64, u64); 30] = [
     (b"label,1,x,y", 14, 3),
     (b"label,1,5,\0", 14, 4),
     (b"label,0000000001,5,2", 14, 2),
+    // exact gaps
+    (b"same,0,0", 10, 0),
+    (b"same,0,0,0,", 10, 0),
+    (b"Same,0,0,0", 13, 1),
+    (b"same ,0,0,0", 13, 1),
+    (b"sam,0,0,0", 13, 1),
+    (b"samee,0,0,0", 13, 1),
+    (b"\"same\",0,0,0", 13, 1),
+    (b"1,0,0,0", 13, 1),
+    (b"same,-1,0,0", 14, 2),
+    (b"same,0,,0", 14, 3),
+    (b"same,0,0,", 14, 4),
+    (b"same,0,0,+1", 14, 4),
+    (b"same,0,0,0\r", 14, 4),
 ];
 
 #[test]
 fn single_lines() {
-    let lists = any_lists(&mut Random::new(25_000_000), [4; 5]);
+    let lists = any_lists(&mut Random::new(25_000_000), [4; 6]);
     for text in GOOD_LINES {
         assert_eq!(check(text, &lists), (0, 0, 0), "{}", text.escape_ascii());
     }

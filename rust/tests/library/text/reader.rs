@@ -1,5 +1,6 @@
-//! A second reader of the sheet text, written from document 01 and document 02, Items 3 and 5, apart from the library's.
-use crate::sheet::Sheet;
+//! A second reader of the sheet text, written from document 01 and document 02, Items 3, 5 and 6, apart from the
+//! library's.
+use crate::sheet::{Sheet, AT_LEAST, EXACTLY};
 
 /// A refusal's number, its place, and its field: for 13 to 15 the bad field of the line, counted from 1, else 0.
 pub type Refused = (u64, u64, u64);
@@ -50,11 +51,12 @@ fn add_record(sheet: &mut Sheet, line: &[u8]) -> Result<(), Wrong> {
             }
             sheet.label(wanted, weight as i64);
         }
-        [b"gap", left, right, distance] => {
+        [word @ (b"gap" | b"same"), left, right, distance] => {
             let left = unsigned(left).ok_or((14, 2))?;
             let right = unsigned(right).ok_or((14, 3))?;
             let distance = signed(distance).ok_or((14, 4))?;
-            sheet.gap(left as usize, right as usize, distance);
+            let kind = if word == b"same" { EXACTLY } else { AT_LEAST };
+            sheet.add(left as usize, right as usize, distance, kind);
         }
         [_, _, _, _] => return Err((13, 1)),
         _ => return Err((10, 0)),

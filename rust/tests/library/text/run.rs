@@ -5,13 +5,13 @@ use super::typed::{damage, leaves_blank, typed};
 use super::writer::listing;
 use crate::call::{refused_at, Lent};
 use crate::conditions::confirm_units;
-use crate::generate::{sheet, KINDS};
+use crate::generate::{sheet, SHAPES};
 use crate::generated::Case;
 use crate::random::Random;
 use crate::records::Records;
 use crate::refusals;
 use crate::rounding::{away_from_zero, units_of};
-use crate::sheet::{file, labels_text, Sheet};
+use crate::sheet::{file, labels_text, Sheet, EXACTLY};
 use crate::solver;
 use dirmoog::{Answer, Listable};
 use std::path::Path;
@@ -24,6 +24,7 @@ fn roomy() -> Sheet {
         left: vec![0; 192],
         right: vec![0; 192],
         distance: vec![0; 192],
+        kind: vec![0; 192],
     }
 }
 
@@ -42,6 +43,7 @@ fn printed(text: &[u8]) -> Vec<u8> {
             lists.left.truncate(gaps);
             lists.right.truncate(gaps);
             lists.distance.truncate(gaps);
+            lists.kind.truncate(gaps);
             let mut lent = Lent::zeros(labels, gaps);
             let answer = lent.call(&lists);
             lent.printed(answer, 0, &lists)
@@ -169,6 +171,79 @@ fn which_field_of_the_line() {
     prints(&file("ring.csv"), "refused,9,0,0\r\n");
 }
 
+/// Document 02, Item 6: an exact gap is typed with the word same, and has its slack record among the others.
+#[test]
+fn labels_joined_rigidly() {
+    for (wants, gaps, records) in [
+        (
+            &["0,1", "10,1"][..],
+            &["same,0,1,6"][..],
+            "place,0,2,1,2\r\nplace,1,8,1,8\r\nslack,0,0,1\r\n",
+        ),
+        (
+            &["0,1", "0,1", "0,1"],
+            &["same,0,1,5", "same,1,2,5", "same,0,2,10"],
+            "place,0,-5,1,-5\r\nplace,1,0,1,0\r\nplace,2,5,1,5\r\n\
+             slack,0,0,1\r\nslack,1,0,1\r\nslack,2,0,1\r\n",
+        ),
+        (
+            &["0,1", "0,2", "9,1"],
+            &["same,0,1,4", "gap,1,2,3"],
+            "place,0,-8,3,-3\r\nplace,1,4,3,1\r\nplace,2,9,1,9\r\nslack,0,0,1\r\nslack,1,14,3\r\n",
+        ),
+        (
+            &["0,1", "0,1"],
+            &["same,0,1,5", "gap,0,1,6"],
+            "refused,9,0,0\r\n",
+        ),
+        (
+            &["0,1", "0,1", "0,1"],
+            &["same,0,1,5", "same,1,2,5", "same,0,2,9"],
+            "refused,9,0,0\r\n",
+        ),
+        // one numbering with gaps, and refusals by it
+        (&["0,1"], &["gap,0,0,0", "same,0,1,0"], "refused,7,1,0\r\n"),
+        (
+            &["0,1"],
+            &["gap,0,0,0", "same,0,0,20001"],
+            "refused,8,1,0\r\n",
+        ),
+    ] {
+        let labels = (0..)
+            .zip(wants)
+            .map(|(i, want)| format!("label,{i},{want}"));
+        let gaps = gaps.iter().map(|gap| gap.to_string());
+        let lines: Vec<String> = labels.chain(gaps).collect();
+        for end in ["\n", "\r\n"] {
+            prints(lines.join(end).as_bytes(), records);
+            prints((lines.join(end) + end).as_bytes(), records);
+        }
+        // the gaps first
+        let turned = [&lines[wants.len()..], &lines[..wants.len()]].concat();
+        prints(turned.join("\n").as_bytes(), records);
+    }
+}
+
+/// Document 02, Item 6: three markers of two parts each, which stand 240 apart, in whole units too. With the word gap the
+/// parts would stand as far apart as they want to.
+#[test]
+fn two_part_markers() {
+    let text = file("two-part-markers.csv");
+    prints(
+        &text,
+        "place,0,5,1,5\r\nplace,1,245,1,245\r\nplace,2,515,1,515\r\nplace,3,755,1,755\r\n\
+         place,4,2635,2,1318\r\nplace,5,3115,2,1558\r\n\
+         slack,0,0,1\r\nslack,1,0,1\r\nslack,2,0,1\r\nslack,3,585,2\r\nslack,4,0,1\r\n",
+    );
+    let loose = String::from_utf8(text).expect("a text");
+    prints(
+        loose.replace("same", "gap").as_bytes(),
+        "place,0,0,1,0\r\nplace,1,245,1,245\r\nplace,2,515,1,515\r\nplace,3,760,1,760\r\n\
+         place,4,1300,1,1300\r\nplace,5,1575,1,1575\r\n\
+         slack,0,5,1\r\nslack,1,0,1\r\nslack,2,5,1\r\nslack,3,270,1\r\nslack,4,35,1\r\n",
+    );
+}
+
 /// What may stand behind a line, or be lacking.
 const ENDS: [&str; 3] = ["", "\n", "\r\n"];
 
@@ -248,24 +323,31 @@ fn station_cases() {
 #[test]
 fn generated_runs() {
     let (mut placed, mut blank, mut broken) = (0, 0, 0);
+    let (mut joined, mut rings) = (0, 0);
     for seed in 40_000_000..40_010_000 {
         let _case = Case(seed);
         let mut random = Random::new(seed);
-        let kind = random.pick(&KINDS);
-        let sheet = sheet(&mut random, kind, 0..=12);
+        let shape = random.pick(&SHAPES);
+        let sheet = sheet(&mut random, shape, 0..=12);
         let mut text = typed(&mut random, &sheet);
         if random.once_in(2) {
             damage(&mut random, &mut text);
         }
         let out = printed(&text);
         assert_eq!(out, expected(&text), "{}", text.escape_ascii());
+        assert!(!out.starts_with(b"refused,23,"), "no text gives 23");
         let shown = out.starts_with(b"place");
+        let exact = read(&text).is_ok_and(|sheet| sheet.kind.contains(&EXACTLY));
+        joined += usize::from(shown && exact);
+        rings += usize::from(exact && out.starts_with(b"refused,9,"));
         placed += usize::from(shown);
         blank += usize::from(shown && leaves_blank(&text));
         broken += usize::from(shown && check_units(&text, &out));
     }
     println!("runs: {placed} placed of 10000, {blank} of them with a blank weight");
     assert!(placed > 3_000 && blank > 500);
+    println!("with exact gaps: {joined} placed, {rings} refused with 9");
+    assert!(joined > 1_000 && rings > 200);
     // so it is not by chance that the whole units meet every gap
     let teeth = format!("halves away from zero would break a gap on {broken} sheets of {placed}");
     println!("{teeth}");

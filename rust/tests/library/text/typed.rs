@@ -2,15 +2,17 @@
 use super::reader::Refused;
 use crate::generate::BLANK_WEIGHT;
 use crate::random::Random;
-use crate::sheet::Sheet;
+use crate::sheet::{Sheet, EXACTLY};
 use std::collections::BTreeMap;
 
-/// A line as it is typed: its fields and its end, and which label it is the record of, if of any.
+/// A line as it is typed: its fields and its end, and which label it is the record of, if of any; else whether of an
+/// exact gap.
 #[derive(Clone)]
 struct Line {
     fields: Vec<Vec<u8>>,
     end: &'static [u8],
     label: Option<usize>,
+    exact: bool,
 }
 
 /// The text of a sheet, in one of many ways: any line ends, leading zeros, blank weights, gaps before labels.
@@ -27,18 +29,21 @@ fn typed_lines(random: &mut Random, sheet: &Sheet) -> Vec<Line> {
     let mut lines = Vec::new();
     let (mut labels, mut gaps) = (0, 0);
     while labels < sheet.labels() || gaps < sheet.gaps() {
-        let (label, record);
+        let (label, exact, record);
         if gaps == sheet.gaps() || (labels < sheet.labels() && !random.once_in(4)) {
-            (label, record) = (Some(labels), label_record(random, sheet, labels));
+            (label, exact) = (Some(labels), false);
+            record = label_record(random, sheet, labels);
             labels += 1;
         } else {
-            (label, record) = (None, gap_record(random, sheet, gaps));
+            (label, exact) = (None, sheet.kind[gaps] == EXACTLY);
+            record = gap_record(random, sheet, gaps);
             gaps += 1;
         }
         lines.push(Line {
             fields: record.map(String::into_bytes).into(),
             end: random.pick(&[&b"\r\n"[..], b"\n"]),
             label,
+            exact,
         });
     }
     match lines.last_mut() {
@@ -62,7 +67,8 @@ fn gap_record(random: &mut Random, sheet: &Sheet, gap: usize) -> [String; 4] {
     let left = digits(random, sheet.left[gap] as i64);
     let right = digits(random, sheet.right[gap] as i64);
     let distance = digits(random, sheet.distance[gap]);
-    ["gap".into(), left, right, distance]
+    let word = ["gap", "same"][usize::from(sheet.kind[gap] == EXACTLY)];
+    [word.into(), left, right, distance]
 }
 
 /// Whether a label of a text without bad lines has a blank weight.
@@ -85,7 +91,7 @@ fn digits(random: &mut Random, number: i64) -> String {
 }
 
 /// Pieces that break a rule, or nearly.
-const PIECES: [&[u8]; 24] = [
+const PIECES: [&[u8]; 27] = [
     b",",
     b"\r",
     b"\n",
@@ -105,9 +111,12 @@ const PIECES: [&[u8]; 24] = [
     b"1000000000",
     b"label",
     b"gap",
+    b"same",
     b"Label",
     b"label,",
+    b"same,",
     b"gap,0,0,0\n",
+    b"same,0,0,0\n",
     b"label,0,0,\n",
     b"\0",
 ];
@@ -128,11 +137,13 @@ pub fn damage(random: &mut Random, text: &mut Vec<u8>) {
     }
 }
 
-/// A text with slips, what must be answered to it, and how many labels are typed before the line that is told.
+/// A text with slips, what must be answered to it, how many labels are typed before the line that is told, and whether
+/// that is an exact gap's.
 pub struct Slipped {
     pub text: Vec<u8>,
     pub told: Refused,
     pub labels: usize,
+    pub exact: bool,
 }
 
 impl Slipped {
@@ -142,6 +153,7 @@ impl Slipped {
             text: text_of(lines),
             told: (number, at as u64 + 1, field),
             labels: lines[..at].iter().filter(is_label).count(),
+            exact: lines[at].exact,
         }
     }
 }
@@ -234,8 +246,8 @@ fn out_of_turn(random: &mut Random, label: usize) -> String {
     digits(random, other)
 }
 
-/// First fields that are neither kind.
-const BAD_WORDS: [&[u8]; 16] = [
+/// First fields that are no word of a record.
+const BAD_WORDS: [&[u8]; 26] = [
     b"",
     b"Label",
     b"LABEL",
@@ -252,6 +264,16 @@ const BAD_WORDS: [&[u8]; 16] = [
     b"\xef\xbb\xbflabel",
     b"label;0",
     b"0",
+    b"1",
+    b"Same",
+    b"SAME",
+    b"sam",
+    b"sane",
+    b"same ",
+    b" same",
+    b"\"same\"",
+    b"same\r",
+    b"exactly",
 ];
 
 /// Numbers that break the rule of every field.

@@ -15,8 +15,11 @@ number-requires c κs = tt
 weigh-requires : tie.Need-weigh-requires
 weigh-requires c κs = c .before .before .before .before .before .before .before .before .pre .0
 
+pull-exact-requires : tie.Need-pull-exact-requires
+pull-exact-requires c κs = c .before .before .before .before .before .before .before .before .before .before .before .before .before .pre
+
 pull-all-requires : tie.Need-pull-all-requires
-pull-all-requires c κs = c .before .before .before .before .before .before .before .before .before .before .before .before .before .before .pre
+pull-all-requires c κs = c .before .before .before .before .before .before .before .before .before .before .before .before .before .before .before .before .before .before .before .pre
 
 returns : tie.Need-returns
 returns c = c .pull-all .ensures
@@ -29,5 +32,6 @@ first-spec =
     stand-wanted-requires
     number-requires
     weigh-requires
+    pull-exact-requires
     pull-all-requires
     returns)

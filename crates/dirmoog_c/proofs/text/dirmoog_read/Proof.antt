@@ -45,15 +45,18 @@ same-length-5 c = search needs
 same-length-6 : tie.Need-same-length-6
 same-length-6 c = search needs
 
+same-length-7 : tie.Need-same-length-7
+same-length-7 c = search needs
+
 returns : tie.Need-returns
 returns c =
     let p = c .before .before .before .before .before .before .before in
-    let d = p .before .before .before .before .before .before .before .before .before .before .before in
+    let d = p .before .before .before .before .before .before .before .before .before .before .before .before .before in
     let answer = ap (λ (r : Done). r .answer) (d .read-sheet .ensures) in
     record {
       lists = ap (λ (r : Done). r .lists) (d .read-sheet .ensures);
       returned = p .before .before .before .read-number .ensures ∙ ap numberOf answer;
-      out-told = told-both (d .before .before .before .before .before .before .before .before .before .before .args .out .now) (p .put .last .0)
+      out-told = told-both (d .before .before .before .before .before .before .before .before .before .before .before .before .args .out .now) (p .put .last .0)
           (p .put .ensures) (p .before .read-first .ensures ∙ ap readFirst answer)
           (c .before .before .put2 .ensures) (c .before .before .before .read-second .ensures ∙ ap readSecond answer);
     }
@@ -74,4 +77,5 @@ dirmoog-read-spec =
     same-length-4
     same-length-5
     same-length-6
+    same-length-7
     returns)

@@ -16,7 +16,7 @@ enum-told c = search needs
 
 place-requires : tie.Need-place-requires
 place-requires c κs =
-    let d = c .before .before .before .before .before .before in
+    let d = c .before .before .before .before .before .before .before in
     sym (d .before .before .check .ensures) ∙ d .enum-told .given .1
 
 returns : tie.Need-returns
@@ -40,10 +40,13 @@ same-length-5 c = search needs
 same-length-6 : tie.Need-same-length-6
 same-length-6 c = search needs
 
+same-length-7 : tie.Need-same-length-7
+same-length-7 c = search needs
+
 returns-2 : tie.Need-returns-2
 returns-2 c =
-    let d = c .before .before .before .before .before .before .before .before in
-    let t = d .before .before .before .before .before .before .before in
+    let d = c .before .before .before .before .before .before .before .before .before .before in
+    let t = d .before .before .before .before .before .before .before .before in
     judged-kept (sym (t .enum-told .given .1) ∙ t .before .before .check .ensures) (d .place .ensures)
 
 pub lay-out-spec : {M : Type 1} → statement M
@@ -61,4 +64,5 @@ lay-out-spec =
     same-length-4
     same-length-5
     same-length-6
+    same-length-7
     returns-2)

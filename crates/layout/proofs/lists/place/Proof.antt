@@ -1,12 +1,9 @@
 -- `layout::lists::place` meets its contract: the passed table is what the core asks, and its answer is judged.
-use mathlib.Core.Path.{refl, sym}
-use Prim.Native.Nat.{_≤_}
-use lib.ListN.{length, replicate}
 use denote.Ref.{now}
 use borrow.Author.Needs.{needs}
 use Rattle.core_project.specs.Project.{Buffers}
 use Rattle.sheet_checks.specs.Lent.{Written}
-use Rattle.layout.proofs.Judging.{few-gaps, kinds-length, passed-ready, judged}
+use Rattle.layout.proofs.Judging.{passed-ready, judged}
 use Rattle.layout.proofs.lists.place.Statement.{statement}
 use Rattle.layout.proofs.lists.place.Tie as tie
 
@@ -19,11 +16,9 @@ lent s =
       mult-num = now (s .args .mult-num);
       mult-den = now (s .args .mult-den);
       ring = now (s .args .ring);
+      back = now (s .args .back);
       carried = now (s .args .carried);
     }
-
-few : (s : tie.Start) → length (now (s .args .left)) ≤ 192
-few s = few-gaps (now (s .args .wanted)) (now (s .args .weight)) (now (s .args .left)) (now (s .args .right)) (now (s .args .distance)) (lent s) (s .pre)
 
 -- what the core left
 abbrev left-by : tie.After-project → Buffers
@@ -39,20 +34,11 @@ left-by c =
       back = l .1 .1 .1 .1 .1 .1 .1 .1 .1 .1 .1 .1 .0;
     }
 
-array-share-prefix-kinds : tie.Need-array-share-prefix-kinds
-array-share-prefix-kinds c = few (c .before .before .before .before)
-
-slice-aggregate-project : tie.Need-slice-aggregate-project
-slice-aggregate-project c = let s = c .before .before .before .before .before in sym (kinds-length (now (s .args .left)) (few s))
-
-slice-aggregate-project-2 : tie.Need-slice-aggregate-project-2
-slice-aggregate-project-2 c = search needs
-
 project-requires : tie.Need-project-requires
 project-requires c κs =
-    let s = c .before .before .before .before .before .before .before .before .before .before .before .before in
+    let s = c .before .before .before .before .before .before .before .before .before .before .before .before .before in
     passed-ready (now (s .args .wanted)) (now (s .args .weight)) (now (s .args .left)) (now (s .args .right)) (now (s .args .distance))
-    (lent s) (s .pre) (replicate 48 0) refl
+    (now (s .args .kind)) (lent s) (s .pre)
 
 answered-requires : tie.Need-answered-requires
 answered-requires c κs = search needs
@@ -75,20 +61,20 @@ same-length-5 c = search needs
 same-length-6 : tie.Need-same-length-6
 same-length-6 c = search needs
 
+same-length-7 : tie.Need-same-length-7
+same-length-7 c = search needs
+
 returns : tie.Need-returns
 returns c =
-    let d = c .before .before .before .before .before .before .before .before .before .before in
-    let s = d .before .before .before .before .before .before .before .before .before .before .before .before .before in
+    let d = c .before .before .before .before .before .before .before .before .before .before .before in
+    let s = d .before .before .before .before .before .before .before .before .before .before .before .before .before .before in
     judged (now (s .args .wanted)) (now (s .args .weight)) (now (s .args .left)) (now (s .args .right)) (now (s .args .distance))
-    (lent s) (s .pre) (replicate 48 0) (left-by d) (d .project .result) (d .project .ensures) refl (c .answered .ensures)
+    (now (s .args .kind)) (lent s) (s .pre) (left-by d) (d .project .result) (d .project .ensures) (c .answered .ensures)
 
 pub place-spec : {M : Type 1} → statement M
 place-spec =
     tie.close
     (tie.spec
-    array-share-prefix-kinds
-    slice-aggregate-project
-    slice-aggregate-project-2
     project-requires
     answered-requires
     same-length
@@ -97,4 +83,5 @@ place-spec =
     same-length-4
     same-length-5
     same-length-6
+    same-length-7
     returns)

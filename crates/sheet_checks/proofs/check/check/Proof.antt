@@ -47,36 +47,39 @@ module _ (s : tie.Start) where
   abbrev g : List ℤ
   g = now (s .args .distance)
 
+  abbrev k : List ℕ
+  k = now (s .args .kind)
+
   -- 1 to 4
   abbrev sized : Checked
-  sized = inTurn (sizeTests (length d) (length u) (raggedly d w u v g (s .args .room .carried)) (short (length d) (length u) (s .args .room)))
+  sized = inTurn (sizeTests (length d) (length u) (raggedly d w u v g k (s .args .room .carried)) (short (length d) (length u) (s .args .room)))
 
-  parts : firstOf sized (contentsOf (readOf d w u v g)) ≡ tableFor (readOf d w u v g) (s .args .room)
-  parts = table-parts d w u v g (s .args .room)
+  parts : firstOf sized (contentsOf (readOf d w u v g k)) ≡ tableFor (readOf d w u v g k) (s .args .room)
+  parts = table-parts d w u v g k (s .args .room)
 
 -- the sizes' checks, from what 3 and 4 were found to be
-sized-so : (c : tie.After-sizes) → c .sizes .result ≡ sized (c .before .before .before .before .before)
+sized-so : (c : tie.After-sizes) → c .sizes .result ≡ sized (c .before .before .before .before .before .before)
 sized-so c =
-    let a = c .before .before .before .before .before .args in
+    let a = c .before .before .before .before .before .before .args in
     c .sizes .ensures
     ∙ ap₂ (λ (r s : Bool). inTurn (sizeTests (length (now (a .wanted))) (length (now (a .left))) r s)) (c .before .before .ragged .ensures) (c .before .short .ensures)
 
 returns : tie.Need-returns
 returns c =
     let d = c .before .before in
-    ends _ (c .enum-told2 .given .1) (sized-so d) ∙ parts (d .before .before .before .before .before)
+    ends _ (c .enum-told2 .given .1) (sized-so d) ∙ parts (d .before .before .before .before .before .before)
 
 contents-requires : tie.Need-contents-requires
 contents-requires c κs =
     let d = c .before .before in
-    let a = d .before .before .before .before .before .args in
-    sized-even (now (a .wanted)) (now (a .weight)) (now (a .left)) (now (a .right)) (now (a .distance)) (a .room .carried)
+    let a = d .before .before .before .before .before .before .args in
+    sized-even (now (a .wanted)) (now (a .weight)) (now (a .left)) (now (a .right)) (now (a .distance)) (now (a .kind)) (a .room .carried)
     (short (length (now (a .wanted))) (length (now (a .left))) (a .room)) (sym (c .enum-told .given .1) ∙ sized-so d)
 
 returns-2 : tie.Need-returns-2
 returns-2 c =
     let d = c .before .before .before in
-    goes-on _ (c .before .enum-told .given .1) (sized-so d) (c .contents .ensures) ∙ parts (d .before .before .before .before .before)
+    goes-on _ (c .before .enum-told .given .1) (sized-so d) (c .contents .ensures) ∙ parts (d .before .before .before .before .before .before)
 
 pub check-spec : {M : Type 1} → statement M
 check-spec =

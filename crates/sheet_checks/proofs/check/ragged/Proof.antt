@@ -21,8 +21,13 @@ returns-3 c =
 
 returns-4 : tie.Need-returns-4
 returns-4 c =
-    let a = c .before .before .before .args in
-    rw (eq-eqb (a .weights) (a .labels) (omega arith), eq-eqb (a .rights) (a .gaps) (omega arith), eq-eqb (a .distances) (a .gaps) (omega arith))
+    let a = c .before .before .before .before .args in
+    rw (eq-eqb (a .weights) (a .labels) (omega arith), eq-eqb (a .rights) (a .gaps) (omega arith), eq-eqb (a .distances) (a .gaps) (omega arith), ne-eqb (a .kinds) (a .gaps) (c .if4 .taken))
+
+returns-5 : tie.Need-returns-5
+returns-5 c =
+    let a = c .before .before .before .before .args in
+    rw (eq-eqb (a .weights) (a .labels) (omega arith), eq-eqb (a .rights) (a .gaps) (omega arith), eq-eqb (a .distances) (a .gaps) (omega arith), eq-eqb (a .kinds) (a .gaps) (omega arith))
 
 pub ragged-spec : {M : Type 1} → statement M
-ragged-spec = tie.close (tie.spec returns returns-2 returns-3 returns-4)
+ragged-spec = tie.close (tie.spec returns returns-2 returns-3 returns-4 returns-5)

@@ -22,12 +22,34 @@ returns-3 c =
 returns-4 : tie.Need-returns-4
 returns-4 c =
     let a = c .before .before .before .before .before .before .before .before .args in
-    rw (le-ltb (a .room .places) (a .labels) (omega arith), le-ltb (a .room .«place_dens») (a .labels) (omega arith), le-ltb (a .room .ring) (a .labels) (omega arith), lt-ltb (a .room .multipliers) (a .gaps) (omega arith))
+    rw (
+      le-ltb (a .room .places) (a .labels) (omega arith),
+      le-ltb (a .room .«place_dens») (a .labels) (omega arith),
+      le-ltb (a .room .ring) (a .labels) (omega arith),
+      lt-ltb (a .room .back) (a .labels) (omega arith),
+    )
 
 returns-5 : tie.Need-returns-5
 returns-5 c =
-    let a = c .before .before .before .before .before .before .before .before .before .args in
-    rw (le-ltb (a .room .places) (a .labels) (omega arith), le-ltb (a .room .«place_dens») (a .labels) (omega arith), le-ltb (a .room .ring) (a .labels) (omega arith), le-ltb (a .room .multipliers) (a .gaps) (omega arith))
+    let a = c .before .before .before .before .before .before .before .before .before .before .args in
+    rw (
+      le-ltb (a .room .places) (a .labels) (omega arith),
+      le-ltb (a .room .«place_dens») (a .labels) (omega arith),
+      le-ltb (a .room .ring) (a .labels) (omega arith),
+      le-ltb (a .room .back) (a .labels) (omega arith),
+      lt-ltb (a .room .multipliers) (a .gaps) (omega arith),
+    )
+
+returns-6 : tie.Need-returns-6
+returns-6 c =
+    let a = c .before .before .before .before .before .before .before .before .before .before .before .args in
+    rw (
+      le-ltb (a .room .places) (a .labels) (omega arith),
+      le-ltb (a .room .«place_dens») (a .labels) (omega arith),
+      le-ltb (a .room .ring) (a .labels) (omega arith),
+      le-ltb (a .room .back) (a .labels) (omega arith),
+      le-ltb (a .room .multipliers) (a .gaps) (omega arith),
+    )
 
 pub short-spec : {M : Type 1} → statement M
-short-spec = tie.close (tie.spec returns returns-2 returns-3 returns-4 returns-5)
+short-spec = tie.close (tie.spec returns returns-2 returns-3 returns-4 returns-5 returns-6)

@@ -3,6 +3,7 @@ use native.Mathlib.Omega.{arith}
 use denote.Ref.{now}
 use borrow.Author.Needs.{needs}
 use Rattle.text_reading.specs.Texts.{Lists}
+use Rattle.text_reading.specs.Parts.{roomOf}
 use Rattle.text_reading.proofs.ReadLaws.{Fitting, fitting, handed-refused, handed-sheet, same-lists}
 use Rattle.text_reading.proofs.read.hand_over.Statement.{statement}
 use Rattle.text_reading.proofs.read.hand_over.Tie as tie
@@ -15,6 +16,7 @@ lent s = record {
   left = now (s .args .left);
   right = now (s .args .right);
   distance = now (s .args .distance);
+  kind = now (s .args .kind);
 }
 
 abbrev work : tie.Start → Lists
@@ -24,14 +26,15 @@ work s = record {
   left = now (s .args .u);
   right = now (s .args .v);
   distance = now (s .args .g);
+  kind = now (s .args .k);
 }
 
 -- the start, seen from where the counts are known to pass
 abbrev start : tie.After-answer → tie.Start
-start c = c .before .before .before .before .before .before .before
+start c = c .before .before .before .before .before .before .before .before .before
 
 -- the counts pass
-fits : (c : tie.After-answer) → Fitting (c .answer .given .0 .0) (lent (start c))
+fits : (c : tie.After-answer) → Fitting (c .answer .given .0 .0) (roomOf (lent (start c)))
 fits c =
     fitting (start c .args .counts) (lent (start c)) _ (c .before .before .judge .ensures) _ (c .answer .given .1)
 
@@ -46,7 +49,7 @@ enum-told c = search needs
 
 returns : tie.Need-returns
 returns c =
-    let s = c .before .before .before .before .before .before .before in
+    let s = c .before .before .before .before .before .before .before .before .before in
     handed-refused (s .args .counts) (lent s) _ (c .before .before .judge .ensures) (work s) _ _
     (c .enum-told .given .1)
 
@@ -72,9 +75,13 @@ copy-indices-requires-2 c κs =
 
 copy-ints-requires-3 : tie.Need-copy-ints-requires-3
 copy-ints-requires-3 c κs =
-    let a = c .before .before .before .before .before .before .before .before .before .before .before .before
-    .before .before .before .before in
+    let a = c .before .before .before .before .before .before .before .before .before .before .before .before .before .before .before .before in
     (omega (arith, fits a .gaps, start a .pre .distance), fits a .distance)
+
+copy-bytes-requires : tie.Need-copy-bytes-requires
+copy-bytes-requires c κs =
+    let a = c .before .before .before .before .before .before .before .before .before .before .before .before .before .before .before .before .before .before .before in
+    (omega (arith, fits a .gaps, start a .pre .kind), fits a .kind)
 
 same-length : tie.Need-same-length
 same-length c = search needs
@@ -91,20 +98,22 @@ same-length-4 c = search needs
 same-length-5 : tie.Need-same-length-5
 same-length-5 c = search needs
 
+same-length-6 : tie.Need-same-length-6
+same-length-6 c = search needs
+
 returns-2 : tie.Need-returns-2
 returns-2 c =
-    let s = c .before .before .before .before .before .before .before .before .before .before .before .before .before
-    .before .before .before .before .before .before .before .before .before .before .before .before in
-    handed-sheet (s .args .counts) (lent s) _
-    (c .before .before .before .before .before .before .before .before .before .before .before .before .before .before
-    .before .before .before .before .before .before .judge .ensures) (work s) _ _
-    (c .before .before .before .before .before .before .before .before .before .before .before .before .before .before
-    .before .before .before .before .answer .given .1)
-    (same-lists (c .before .before .before .before .before .before .before .before .before .before .before .before
-    .before .before .before .copy-ints .ensures)
-    (c .before .before .before .before .before .before .before .before .before .before .before .before .copy-ints2
-    .ensures) (c .before .before .before .before .before .before .before .before .before .copy-indices .ensures)
-    (c .before .before .before .before .before .copy-indices2 .ensures) (c .before .copy-ints3 .ensures))
+    let k = c .before .before in
+    let g = k .before .before .before in
+    let v = g .before .before .before .before in
+    let u = v .before .before .before .before in
+    let w = u .before .before .before in
+    let d = w .before .before .before in
+    let a = d .before .before .before in
+    let s = start a in
+    handed-sheet (s .args .counts) (lent s) _ (a .before .before .judge .ensures) (work s) _ _ (a .answer .given .1)
+    (same-lists (d .copy-ints .ensures) (w .copy-ints2 .ensures) (u .copy-indices .ensures)
+    (v .copy-indices2 .ensures) (g .copy-ints3 .ensures) (k .copy-bytes .ensures))
 
 pub hand-over-spec : {M : Type 1} → statement M
 hand-over-spec =
@@ -119,9 +128,11 @@ hand-over-spec =
     copy-indices-requires
     copy-indices-requires-2
     copy-ints-requires-3
+    copy-bytes-requires
     same-length
     same-length-2
     same-length-3
     same-length-4
     same-length-5
+    same-length-6
     returns-2)

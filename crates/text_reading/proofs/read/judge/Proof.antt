@@ -1,9 +1,11 @@
--- `text_reading::read::judge` meets its contract: the tests in the order of `judgedBy`. Assumes nothing.
+-- `text_reading::read::judge` meets its contract: 1, 2, then 4 for the first list that is too short. Assumes nothing.
+use mathlib.Core.Path.{_∙_}
 use native.Mathlib.Omega.{arith}
-use borrow.Author.Tests.{lt-ltb, le-ltb, lt-leb, le-leb}
+use borrow.Author.Tests.{lt-ltb, le-ltb}
 use borrow.Author.Needs.{needs}
 use Rattle.ground.specs.Limits.{gapsMost, labelsMost}
 use Rattle.text_reading.specs.Parts.{judgedBy}
+use Rattle.text_reading.proofs.ReadLaws.{fitting-judged, short-judged}
 use Rattle.text_reading.proofs.read.judge.Statement.{statement}
 use Rattle.text_reading.proofs.read.judge.Tie as tie
 
@@ -25,116 +27,71 @@ returns-2 c =
     let s = c .before .before .before in
     simp (
       le-ltb labelsMost (s .args .counts .labels) (omega arith),
-      lt-ltb gapsMost (s .args .counts .gaps) (omega
-          arith),
+      lt-ltb gapsMost (s .args .counts .gaps) (omega arith),
     ) (c .refused2 .ensures)
 
 refused-requires-3 : tie.Need-refused-requires-3
 refused-requires-3 c κs = search needs
 
 returns-3 : tie.Need-returns-3
-unfolding judgedBy
 returns-3 c =
     let s = c .before .before .before .before .before in
-    simp (
-      le-ltb labelsMost (s .args .counts .labels) (omega arith),
-      le-ltb gapsMost (s .args .counts .gaps) (omega
-          arith),
-      lt-leb (s .args .counts .labels) (s .args .room .wanted) (omega arith),
-    ) (c .refused3 .ensures)
+    c .refused3 .ensures ∙ short-judged (s .args .counts) (s .args .room) (omega arith) (omega arith) (λ f. omega (arith, f .wanted))
 
 refused-requires-4 : tie.Need-refused-requires-4
 refused-requires-4 c κs = search needs
 
 returns-4 : tie.Need-returns-4
-unfolding judgedBy
 returns-4 c =
     let s = c .before .before .before .before .before .before .before in
-    simp (
-      le-ltb labelsMost (s .args .counts .labels) (omega arith),
-      le-ltb gapsMost (s .args .counts .gaps) (omega
-          arith),
-      le-leb (s .args .counts .labels) (s .args .room .wanted) (omega arith),
-      lt-leb (s .args .counts .labels)
-          (s .args .room .weight) (omega arith),
-    ) (c .refused4 .ensures)
+    c .refused4 .ensures ∙ short-judged (s .args .counts) (s .args .room) (omega arith) (omega arith) (λ f. omega (arith, f .weight))
 
 refused-requires-5 : tie.Need-refused-requires-5
 refused-requires-5 c κs = search needs
 
 returns-5 : tie.Need-returns-5
-unfolding judgedBy
 returns-5 c =
     let s = c .before .before .before .before .before .before .before .before .before in
-    simp (
-      le-ltb labelsMost (s .args .counts .labels) (omega arith),
-      le-ltb gapsMost (s .args .counts .gaps) (omega
-          arith),
-      le-leb (s .args .counts .labels) (s .args .room .wanted) (omega arith),
-      le-leb (s .args .counts .labels)
-          (s .args .room .weight) (omega arith),
-      lt-leb (s .args .counts .gaps) (s .args .room .left) (omega arith),
-    )
-    (c .refused5 .ensures)
+    c .refused5 .ensures ∙ short-judged (s .args .counts) (s .args .room) (omega arith) (omega arith) (λ f. omega (arith, f .left))
 
 refused-requires-6 : tie.Need-refused-requires-6
 refused-requires-6 c κs = search needs
 
 returns-6 : tie.Need-returns-6
-unfolding judgedBy
 returns-6 c =
     let s = c .before .before .before .before .before .before .before .before .before .before .before in
-    simp (
-      le-ltb labelsMost (s .args .counts .labels) (omega arith),
-      le-ltb gapsMost (s .args .counts .gaps) (omega
-          arith),
-      le-leb (s .args .counts .labels) (s .args .room .wanted) (omega arith),
-      le-leb (s .args .counts .labels)
-          (s .args .room .weight) (omega arith),
-      le-leb (s .args .counts .gaps) (s .args .room .left) (omega arith),
-      lt-leb
-          (s .args .counts .gaps) (s .args .room .right) (omega arith),
-    ) (c .refused6 .ensures)
+    c .refused6 .ensures ∙ short-judged (s .args .counts) (s .args .room) (omega arith) (omega arith) (λ f. omega (arith, f .right))
 
 refused-requires-7 : tie.Need-refused-requires-7
 refused-requires-7 c κs = search needs
 
 returns-7 : tie.Need-returns-7
-unfolding judgedBy
 returns-7 c =
-    let s = c .before .before .before .before .before .before .before .before .before .before .before .before .before
-    in
-    simp (
-      le-ltb labelsMost (s .args .counts .labels) (omega arith),
-      le-ltb gapsMost (s .args .counts .gaps) (omega
-          arith),
-      le-leb (s .args .counts .labels) (s .args .room .wanted) (omega arith),
-      le-leb (s .args .counts .labels)
-          (s .args .room .weight) (omega arith),
-      le-leb (s .args .counts .gaps) (s .args .room .left) (omega arith),
-      le-leb
-          (s .args .counts .gaps) (s .args .room .right) (omega arith),
-      lt-leb (s .args .counts .gaps)
-          (s .args .room .distance) (omega arith),
-    ) (c .refused7 .ensures)
+    let s = c .before .before .before .before .before .before .before .before .before .before .before .before .before in
+    c .refused7 .ensures ∙ short-judged (s .args .counts) (s .args .room) (omega arith) (omega arith) (λ f. omega (arith, f .distance))
+
+refused-requires-8 : tie.Need-refused-requires-8
+refused-requires-8 c κs = search needs
 
 returns-8 : tie.Need-returns-8
-unfolding judgedBy
 returns-8 c =
-    let s = c .before .before .before .before .before .before .before .before .before .before .before .before in
-    simp (
-      le-ltb labelsMost (s .args .counts .labels) (omega arith),
-      le-ltb gapsMost (s .args .counts .gaps) (omega
-          arith),
-      le-leb (s .args .counts .labels) (s .args .room .wanted) (omega arith),
-      le-leb (s .args .counts .labels)
-          (s .args .room .weight) (omega arith),
-      le-leb (s .args .counts .gaps) (s .args .room .left) (omega arith),
-      le-leb
-          (s .args .counts .gaps) (s .args .room .right) (omega arith),
-      le-leb (s .args .counts .gaps)
-          (s .args .room .distance) (omega arith),
-    )
+    let s = c .before .before .before .before .before .before .before .before .before .before .before .before .before .before .before in
+    c .refused8 .ensures ∙ short-judged (s .args .counts) (s .args .room) (omega arith) (omega arith) (λ f. omega (arith, f .kind))
+
+returns-9 : tie.Need-returns-9
+returns-9 c =
+    let s = c .before .before .before .before .before .before .before .before .before .before .before .before .before .before in
+    fitting-judged (s .args .counts) (s .args .room)
+    (record {
+      labels = omega arith;
+      gaps = omega arith;
+      wanted = omega arith;
+      weight = omega arith;
+      left = omega arith;
+      right = omega arith;
+      distance = omega arith;
+      kind = omega arith;
+    })
 
 pub judge-spec : {M : Type 1} → statement M
 judge-spec =
@@ -154,4 +111,6 @@ judge-spec =
     returns-6
     refused-requires-7
     returns-7
-    returns-8)
+    refused-requires-8
+    returns-8
+    returns-9)

@@ -10,18 +10,12 @@ use Rattle.text_reading.proofs.read.read_lines.Statement.{statement}
 use Rattle.text_reading.proofs.read.read_lines.Tie as tie
 
 abbrev Inv-loop : tie.InvT-loop
-Inv-loop text wanted₀ weight₀ left₀ right₀ distance₀ counts₀ from₀ wanted weight left right distance counts from =
-    Reached text from counts (record {
-      wanted =
-          wanted;
-      weight = weight;
-      left = left;
-      right = right;
-      distance = distance;
-    })
+Inv-loop text wanted₀ weight₀ left₀ right₀ distance₀ kind₀ counts₀ from₀ wanted weight left right distance kind counts from =
+    Reached text from counts
+    (record { wanted = wanted; weight = weight; left = left; right = right; distance = distance; kind = kind })
 
 abbrev μ-loop : tie.MeasureT-loop
-μ-loop text wanted₀ weight₀ left₀ right₀ distance₀ counts₀ from₀ wanted weight left right distance counts from =
+μ-loop text wanted₀ weight₀ left₀ right₀ distance₀ kind₀ counts₀ from₀ wanted weight left right distance kind counts from =
     length text - from .at
 
 loop-holds : tie.Need-loop-holds Inv-loop μ-loop
@@ -67,20 +61,19 @@ returns c =
 
 store-requires : tie.Need-store-requires Inv-loop μ-loop
 store-requires c κs =
-    let k = c .before .before .before .before .before .before .before .before .before .before .before in
+    let k = c .before .before .before .before .before .before .before .before .before .before .before .before in
     let v = k .before .before .loop .inv in
     let short = k .before .before .before .before .pre .0 in
     (omega (arith, v .labels-most, k .if1 .taken, short), omega (arith, v .gaps-most, k .if1 .taken, short))
 
 loop-less : tie.Need-loop-less Inv-loop μ-loop
 loop-less c =
-    let line = c .before .before .before .before .before .before .before .before .before .before .before .before
-    .line-at .ensures in
+    let line = c .before .before .before .before .before .before .before .before .before .before .before .before .before .line-at .ensures in
     omega (arith, line .on, line .rest)
 
 loop-again : tie.Need-loop-again Inv-loop μ-loop
 loop-again c =
-    let row = c .before .before .before .before .before .before .before .before in
+    let row = c .before .before .before .before .before .before .before .before .before in
     let line = row .before .before .before .before in
     reached-turn (line .before .before .before .loop .inv) (line .line-at .ensures) _
     (sym (row .before .before .take-row .ensures) ∙ row .taken .given .1)

@@ -17,6 +17,7 @@ lent s = record {
   left = now (s .args .left);
   right = now (s .args .right);
   distance = now (s .args .distance);
+  kind = now (s .args .kind);
 }
 
 -- the work arrays after the loop over the lines
@@ -29,20 +30,24 @@ work c =
       left = l .1 .1 .1 .0;
       right = l .1 .1 .1 .1 .0;
       distance = l .1 .1 .1 .1 .1 .0;
+      kind = l .1 .1 .1 .1 .1 .1 .0;
     }
+
+-- the start, seen from there
+abbrev start : tie.After-read-lines → tie.Start
+start c = c .before .before .before .before .before .before .before .before .before .before .before .before
 
 sizes : (c : tie.After-found) → WorkArrays (work (c .before .before))
 sizes c =
-    scanned-sizes (outcome (now (c .before .before .before .before .before .before .before .before .before .before
-    .before .before .args .text))) _ (work (c .before .before)) _ (c .before .before .read-lines .ensures)
-    (c .found .given .1)
+    let r = c .before .before in
+    scanned-sizes (outcome (now (start r .args .text))) _ (work r) _ (r .read-lines .ensures) (c .found .given .1)
 
 refused-requires : tie.Need-refused-requires
 refused-requires c κs = search needs
 
 returns : tie.Need-returns
 returns c =
-    let s = c .before .before .before .before .before in
+    let s = c .before .before .before .before .before .before in
     long-text (now (s .args .text)) (lent s) _ (c .before .if1 .taken) (c .refused .ensures)
 
 read-lines-requires : tie.Need-read-lines-requires
@@ -56,10 +61,9 @@ enum-told c = search needs
 
 returns-2 : tie.Need-returns-2
 returns-2 c =
-    let s = c .before .before .before .before .before .before .before .before .before .before .before .before in
-    read-bad (now (s .args .text)) _ (work (c .before .before)) (lent s)
-    (c .before .before .before .before .before .before .before .before .if1 .left)
-    (c .before .before .read-lines .ensures) _ _ (c .enum-told .given .1)
+    let r = c .before .before in
+    read-bad (now (start r .args .text)) _ (work r) (lent (start r)) (r .before .before .before .before .before .before .before .if1 .left) (r .read-lines .ensures) _ _
+    (c .enum-told .given .1)
 
 slice-aggregate-hand-over : tie.Need-slice-aggregate-hand-over
 slice-aggregate-hand-over c = sym (sizes (c .before .before) .wanted)
@@ -76,9 +80,11 @@ slice-aggregate-hand-over-4 c = sym (sizes (c .before .before .before .before .b
 slice-aggregate-hand-over-5 : tie.Need-slice-aggregate-hand-over-5
 slice-aggregate-hand-over-5 c = sym (sizes (c .before .before .before .before .before .before) .distance)
 
+slice-aggregate-hand-over-6 : tie.Need-slice-aggregate-hand-over-6
+slice-aggregate-hand-over-6 c = sym (sizes (c .before .before .before .before .before .before .before) .kind)
+
 hand-over-requires : tie.Need-hand-over-requires
-hand-over-requires c κs =
-    sizes (c .before .before .before .before .before .before .before .before .before .before .before)
+hand-over-requires c κs = sizes (c .before .before .before .before .before .before .before .before .before .before .before .before .before)
 
 same-length : tie.Need-same-length
 same-length c = search needs
@@ -95,21 +101,16 @@ same-length-4 c = search needs
 same-length-5 : tie.Need-same-length-5
 same-length-5 c = search needs
 
+same-length-6 : tie.Need-same-length-6
+same-length-6 c = search needs
+
 returns-3 : tie.Need-returns-3
 returns-3 c =
-    let s = c .before .before .before .before .before .before .before .before .before .before .before .before .before
-    .before .before .before .before .before .before .before .before .before .before .before .before .before .before
-    .before .before .before .before in
-    read-sheet (now (s .args .text)) _
-    (work (c .before .before .before .before .before .before .before .before .before .before .before .before .before
-    .before .before .before .before .before .before .before .before)) (lent s)
-    (c .before .before .before .before .before .before .before .before .before .before .before .before .before .before
-    .before .before .before .before .before .before .before .before .before .before .before .before .before .if1
-    .left) (c .before .before .before .before .before .before .before .before .before .before .before .before .before
-    .before .before .before .before .before .before .before .before .read-lines .ensures) _ _ _
-    (c .before .before .before .before .before .before .before .before .before .before .before .before .before .before
-    .before .before .before .before .before .found .given .1)
-    (c .before .before .before .before .before .before .before .hand-over .ensures)
+    let h = c .before .before .before .before .before .before .before .before .before in
+    let f = h .before .before .before .before .before .before .before .before .before .before .before .before .before .before in
+    let r = f .before .before in
+    read-sheet (now (start r .args .text)) _ (work r) (lent (start r)) (r .before .before .before .before .before .before .before .if1 .left) (r .read-lines .ensures) _ _ _
+    (f .found .given .1) (h .hand-over .ensures)
 
 pub read-sheet-spec : {M : Type 1} → statement M
 read-sheet-spec =
@@ -126,10 +127,12 @@ read-sheet-spec =
     slice-aggregate-hand-over-3
     slice-aggregate-hand-over-4
     slice-aggregate-hand-over-5
+    slice-aggregate-hand-over-6
     hand-over-requires
     same-length
     same-length-2
     same-length-3
     same-length-4
     same-length-5
+    same-length-6
     returns-3)

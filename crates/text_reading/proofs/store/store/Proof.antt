@@ -14,6 +14,7 @@ lent s = record {
   left = now (s .args .left);
   right = now (s .args .right);
   distance = now (s .args .distance);
+  kind = now (s .args .kind);
 }
 
 enum-known-row : tie.Need-enum-known-row
@@ -22,8 +23,8 @@ enum-known-row c = search needs
 store-label-requires : tie.Need-store-label-requires
 store-label-requires c κs = search needs
 
-add-t17 : tie.Need-add-t17
-add-t17 c = search needs
+add-t18 : tie.Need-add-t18
+add-t18 c = search needs
 
 enum-known-row-2 : tie.Need-enum-known-row-2
 enum-known-row-2 c = search needs
@@ -31,8 +32,8 @@ enum-known-row-2 c = search needs
 store-gap-requires : tie.Need-store-gap-requires
 store-gap-requires c κs = search needs
 
-add-t23 : tie.Need-add-t23
-add-t23 c = search needs
+add-t25 : tie.Need-add-t25
+add-t25 c = search needs
 
 returns : tie.Need-returns
 returns c =
@@ -42,10 +43,10 @@ returns c =
 
 returns-2 : tie.Need-returns-2
 returns-2 c =
-    let s = c .before .before .before .before .before .before .before in
-    stored-gap (s .args .row) _ (s .args .counts) (lent s) _ _ _
-    (c .before .before .before .before .before .row2 .given .1) (c .store-gap .ensures .0) (c .store-gap .ensures .1)
-    (c .store-gap .ensures .2)
+    let s = c .before .before .before .before .before .before .before .before in
+    let e = c .store-gap .ensures in
+    stored-gap (s .args .row) _ (s .args .counts) (lent s) _ _ _ _
+    (c .before .before .before .before .before .before .row2 .given .1) (e .0) (e .1) (e .2) (e .3)
 
 pub store-spec : {M : Type 1} → statement M
 store-spec =
@@ -53,9 +54,9 @@ store-spec =
     (tie.spec
     enum-known-row
     store-label-requires
-    add-t17
+    add-t18
     enum-known-row-2
     store-gap-requires
-    add-t23
+    add-t25
     returns
     returns-2)

@@ -25,10 +25,13 @@ mul-g c = search needs
 element-set-from-g : tie.Need-element-set-from-g
 element-set-from-g c = search needs
 
+element-write-kind : tie.Need-element-write-kind
+element-write-kind c = search needs
+
 returns : tie.Need-returns
 returns c =
     let s = c .before .before in
-    simp (lt-ltb (s .args .gap .0) gapsMost (omega arith)) (refl, refl, search needs)
+    simp (lt-ltb (s .args .gap .0) gapsMost (omega arith)) (refl, refl, search needs, refl)
 
 returns-2 : tie.Need-returns-2
 returns-2 c = let s = c .before in simp (le-ltb (s .args .gap .0) gapsMost (c .if1 .left)) (search needs)
@@ -43,5 +46,6 @@ store-gap-spec =
     element-write-right
     mul-g
     element-set-from-g
+    element-write-kind
     returns
     returns-2)

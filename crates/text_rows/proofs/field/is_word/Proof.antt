@@ -6,13 +6,13 @@ use borrow.Author.Tests.{eq-eqb, ne-eqb}
 use native.Mathlib.Numerals.{add-one}
 use native.Mathlib.Omega.{arith}
 use lib.ListN.{length, drop, getD, drop-of-length-le}
-use Rattle.text_rows.specs.Taking.{same}
-use Rattle.text_rows.proofs.FieldLaws.{lengths-differ, same-drop}
+use Rattle.text_rows.specs.Taking.{sameBytes}
+use Rattle.text_rows.proofs.FieldLaws.{lengths-differ, bytes-drop}
 use Rattle.text_rows.proofs.field.is_word.Statement.{statement}
 use Rattle.text_rows.proofs.field.is_word.Tie as tie
 
 abbrev Inv-loop : tie.InvT-loop
-Inv-loop field word i₀ i = (i ≤ length word) × (same field word ≡ same (drop i field) (drop i word))
+Inv-loop field word i₀ i = (i ≤ length word) × (sameBytes field word ≡ sameBytes (drop i field) (drop i word))
 
 abbrev μ-loop : tie.MeasureT-loop
 μ-loop field word i₀ i = length word - i
@@ -37,7 +37,7 @@ returns-2 c =
     let l = c .before .before .before .before .loop in
     rw (
       l .inv .1,
-      same-drop (a .field .now) (a .word .now) (l .i) (omega arith) (omega arith),
+      bytes-drop (a .field .now) (a .word .now) (l .i) (omega arith) (omega arith),
       ne-eqb _ _ (c .if2 .taken),
     )
 
@@ -55,14 +55,14 @@ loop-again c =
       omega arith,
       l .inv .1 ∙ rw (
         add-one (l .i),
-        same-drop (a .field .now) (a .word .now) (l .i) (omega arith) (omega
+        bytes-drop (a .field .now) (a .word .now) (l .i) (omega arith) (omega
             arith),
         eq-eqb _ _ agree,
       ),
     )
 
 returns-3 : tie.Need-returns-3 Inv-loop μ-loop
-unfolding same
+unfolding sameBytes
 returns-3 c =
     let a = c .before .before .before .args in
     let l = c .before .loop in
