@@ -58,7 +58,9 @@ extern "C" {
  * Lays out a sheet: finds the places that meet every gap, with the least sum of weight x (place - wanted)^2.
  * A gap asks that its right label stand at least its distance to the right of its left label,
  * place(left) + distance <= place(right); an exact gap that it stand exactly there,
- * place(left) + distance = place(right). Refused with 1 to 8, 23 or 9.
+ * place(left) + distance = place(right). It gives the same places, or 9, as the two opposite gaps that it
+ * replaces, where both sheets pass all other checks, and counts once towards the 192 gaps. Refused with 1 to
+ * 8, 23 or 9.
  *
  * To read, one entry per label (their count is wanted_len):
  *   wanted     wanted place, in hundredths of a millimetre
@@ -87,10 +89,10 @@ extern "C" {
  *   A place has a denominator of at most 4,800 and lies within 1,140,000 of zero, so that dirmoog_round,
  *   dirmoog_round_half_up and dirmoog_slack refuse none.
  *   Multipliers show that no other places cost less: that of an exact gap may have either sign, and no other
- *   is negative; one is 0 where its gap is not tight, which an exact gap always is; and for each label
+ *   is negative; one is 0 where its gap is not tight, and an exact gap is always tight; and for each label
  *   2 x weight x (place - wanted) is the sum over the gaps with it on the right less that over those with it
  *   on the left. Marked gaps are tight, no ring can be walked along them, and an unmarked gap has multiplier
- *   0: so an exact gap that others imply may be unmarked.
+ *   0. So an exact gap may be unmarked too; of exact gaps that close a ring at least one is.
  * 9, ring: the first entries of ring, out[1] many, hold gap numbers, and those of back beside each 0 where
  *   the gap is passed forwards, from its left label to its right, or 1 where it is passed backwards, which an
  *   exact gap alone may be. As they are walked, each gap ends where the next one starts, the last joins the

@@ -103,7 +103,8 @@ pub const FORWARDS: u8 = 0;
 /// Beside a gap of a ring, an exact one, that is passed from its right label to its left.
 pub const BACKWARDS: u8 = 1;
 
-/// What a station lends to read: one entry per label, then one per gap. A kind is [`AT_LEAST`] or [`EXACTLY`].
+/// What a station lends to read: one entry per label, then one per gap. A kind is [`AT_LEAST`] or
+/// [`EXACTLY`]; any other is refused with 23.
 #[derive(Clone, Copy, Debug)]
 pub struct Sheet<'a> {
     pub wanted: &'a [i64],
@@ -320,8 +321,8 @@ fn rounded(number: u64, out: [i64; 1]) -> Rounded {
 }
 
 /// How far a gap is from closing: right place less left place less distance, in lowest terms, and
-/// negative where the gap is broken. The places need not be in lowest terms. Refused with 12 for
-/// either place, then with 8 for the distance.
+/// negative where the gap is broken; an exact gap is broken, too, where it is above zero. The places
+/// need not be in lowest terms. Refused with 12 for either place, then with 8 for the distance.
 ///
 /// ```
 /// use dirmoog::{slack, Fraction, Refusal, SlackAnswer};

@@ -19,7 +19,7 @@ use Rattle.sheet_checks.specs.Lent.{LentGaps, lists, records, Read, Written, la
 use Rattle.sheet_checks.specs.Refusals.{roomOf, short}
 use Rattle.layout.specs.Promise.{Promise, stepsTold}
 
--- "one is lent the gaps as three lists, the other as records"; the lists are four since Item 6
+-- "one is lent the gaps as three lists, the other as records"; with Item 6's kinds the lists are four
 pub data Form : Type 0 where
   as-lists : Form
   as-records : Form

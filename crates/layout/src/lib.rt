@@ -1,3 +1,3 @@
-// Lays out a sheet, and lends the filled part of the ring buffer.
+// Lays out a sheet, and lends the filled parts of the ring buffers.
 pub mod lists;
 pub mod part;

@@ -140,7 +140,7 @@ weight-before-stranger : table (lent wants (pos 1 ∷ pos (weightMost + 1) ∷ [
 unfolding tableOf offenderBelow
 weight-before-stranger = refl
 
--- gap 0 has no kind, and gap 1 is too long: 8 before 23
+-- gap 0 has a kind that is neither, and gap 1 is too long: 8 before 23
 gap-before-kind : table (joined wants weights (0 ∷ 0 ∷ []) (1 ∷ 1 ∷ []) (pos 10 ∷ pos (distanceMost + 1) ∷ []) (2 ∷ 0 ∷ [])) (room 2 2 2) ≡ refuse 8 1
 unfolding tableOf offenderBelow
 gap-before-kind = refl

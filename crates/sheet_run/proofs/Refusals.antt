@@ -89,7 +89,13 @@ small-table r w l g =
     table-told Small (labelCount r) (gapCount r) (ragged r (length (w .carried))) (short (labelCount r) (gapCount r) (roomOf w)) (rows r)
     ((omega arith, omega arith, omega arith), (omega arith, omega arith, omega arith), (omega arith, omega arith, omega arith), (omega arith, omega arith, omega arith)) (
       (λ k h. (omega arith, omega arith, omega arith)),
-      ((λ k h. (omega arith, omega arith, omega arith)), ((λ k h. (omega arith, omega arith, omega arith)), ((λ k h. (omega arith, omega arith, omega arith)), ((λ k h. (omega arith, omega arith, omega arith)), tt)))),
+      (
+        (λ k h. (omega arith, omega arith, omega arith)),
+        (
+          (λ k h. (omega arith, omega arith, omega arith)),
+          ((λ k h. (omega arith, omega arith, omega arith)), ((λ k h. (omega arith, omega arith, omega arith)), tt)),
+        ),
+      ),
     )
 
 abbrev pub SmallAnswer : Answer → Type 0

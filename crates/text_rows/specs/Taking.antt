@@ -73,7 +73,7 @@ abbrev pub fieldAt : List (List ℕ) → ℕ → List ℕ
 fieldAt fs zero = []
 fieldAt fs (suc k) = getD fs k []
 
--- "10 is left for a line without four fields. A first field that is neither kind is 13", now none of three words: 10, then 13,
+-- "10 is left for a line without four fields. A first field that is neither kind is 13", which with Item 6 is none of three words: 10, then 13,
 -- then the rest. "Blank lines are bad lines": a blank one has one field
 unfoldable pub rowOf : Earlier → List (List ℕ) → Taken
 rowOf earlier fs =

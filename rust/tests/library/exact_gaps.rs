@@ -1,4 +1,4 @@
-//! Exact gaps, document 02, Item 6: the answers that it gives, and those worked out for it.
+//! Exact gaps, document 02, Item 6: answers worked out for it, refusal 23, and the list and the buffer that 3 and 4 cover.
 use crate::bench::{placed, plain, refused};
 use crate::call::{check_call, checked_call, Checked, Lent, Outcome};
 use crate::fraction::Fraction;

@@ -4,7 +4,8 @@ use crate::random::Random;
 use crate::sheet::{Sheet, EXACTLY};
 use std::ops::RangeInclusive;
 
-/// The shapes of sheets. All keep to the limits, in each some have exact gaps, and some have a ring.
+/// The shapes of sheets. All keep to the limits, each has sheets with exact gaps, and some shapes have
+/// sheets with a ring.
 #[derive(Clone, Copy, Debug)]
 pub enum Shape {
     Feasible,

@@ -3,7 +3,7 @@ use crate::call::{check_call, checked_call, Lent, Outcome};
 use crate::came::{Came, Counts};
 use crate::generate::{damage, sheet, SHAPES};
 use crate::random::Random;
-use crate::sheet::{Sheet, AT_LEAST};
+use crate::sheet::{Sheet, AT_LEAST, EXACTLY};
 use std::ops::RangeInclusive;
 
 /// Says which case failed, where one does.
@@ -20,6 +20,7 @@ impl Drop for Case {
 /// Checks so many sheets of each shape, with so many damages each, and counts what came.
 fn run(seed: u64, cases: u64, labels: RangeInclusive<i64>, damages: usize) -> Counts {
     let mut counts = Counts::default();
+    let mut exact = [false; SHAPES.len()];
     for case in 0..cases {
         for (number, shape) in SHAPES.into_iter().enumerate() {
             let seed = seed + case * SHAPES.len() as u64 + number as u64;
@@ -30,10 +31,12 @@ fn run(seed: u64, cases: u64, labels: RangeInclusive<i64>, damages: usize) -> Co
             for _ in 0..damages {
                 damage(&mut random, &mut sheet, &mut lent);
             }
+            exact[number] |= sheet.kind.contains(&EXACTLY);
             counts.add(&sheet, &checked_call(&sheet, &lent));
         }
     }
     println!("sheets of {labels:?} labels, damages {damages}: {counts:?}");
+    assert!(exact.into_iter().all(|met| met), "{SHAPES:?}: {exact:?}");
     counts
 }
 

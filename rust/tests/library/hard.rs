@@ -7,7 +7,7 @@ use crate::call::{check_call, Lent, Outcome};
 use crate::generate::hard;
 use crate::generated::Case;
 use crate::random::Random;
-use crate::sheet::Sheet;
+use crate::sheet::{Sheet, EXACTLY};
 use crate::text::reader::read;
 use std::fmt::Write;
 use std::path::Path;
@@ -88,11 +88,16 @@ fn outer_loop_ran(name: &str, record: &str, line: &str, outcome: Outcome) -> boo
 fn sheets_of_the_program() {
     let (told, ran) = told();
     let (mut placed, mut refused, mut settled) = (0, 0, 0);
+    let mut joined = Vec::new();
     for told in told {
         let sheet = read(told.text.as_bytes()).expect("a sheet");
         for ((record, carried), line) in records(sheet.gaps()).into_iter().zip(&told.lines) {
             let outcome = check_call(&sheet, &with_record(&sheet, carried));
-            match outer_loop_ran(&told.name, record, line, outcome) {
+            let ran = outer_loop_ran(&told.name, record, line, outcome);
+            if ran && sheet.kind.contains(&EXACTLY) {
+                joined.push(outcome);
+            }
+            match ran {
                 false => settled += 1,
                 true if outcome == Outcome::Placed => placed += 1,
                 true => refused += 1,
@@ -102,6 +107,8 @@ fn sheets_of_the_program() {
     println!("by the outer loop {placed} placed and {refused} refused, by the proposal {settled}");
     assert_eq!(placed + refused, ran);
     assert!(placed >= 20 && refused >= 10 && settled >= 10);
+    // of sheets with exact gaps, too, it placed one and refused one
+    assert!(joined.contains(&Outcome::Placed) && joined.contains(&Outcome::Refused(9)));
 }
 
 /// The text of a sheet, its labels first.
@@ -112,7 +119,8 @@ fn plain_text(sheet: &Sheet) -> String {
     }
     for gap in sheet.all_gaps() {
         let (left, right, distance) = (gap.left, gap.right, gap.distance);
-        writeln!(text, "gap,{left},{right},{distance}").expect("a string takes all");
+        let word = ["gap", "same"][usize::from(gap.exact)];
+        writeln!(text, "{word},{left},{right},{distance}").expect("a string takes all");
     }
     text
 }

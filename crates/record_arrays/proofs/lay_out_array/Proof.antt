@@ -1,4 +1,4 @@
--- `record_arrays::lay_out_array` meets its contract: a walk of its MIR, by hand. All that it knows of `lay_out_records` is that
+-- `record_arrays::lay_out_array` meets its contract: a walk of its MIR, written by tools/walks. All that it knows of `lay_out_records` is that
 -- it meets its contract. The front of the array is lent for a lifetime that ends with the call; every other parameter
 -- goes to the call for good, at its own lifetime, share and name.
 -- Assumes nothing.

@@ -1,4 +1,4 @@
--- `records::lay_out_records` meets its contract: a walk of its MIR, by hand.
+-- `records::lay_out_records` meets its contract: a walk of its MIR, written by tools/walks.
 -- All that it knows of `kept_count`, `copy_records` and `lay_out_kept` is that each meets its contract.
 -- The buffers go to `lay_out_kept` at their own lifetimes, shares and names,
 -- and are given up for good (`gave-slice`). Of what is read, which is Copy, the callees get copies.
@@ -430,7 +430,8 @@ module _ {M : Type 1} (𝓤 : URA M) (H : Heap 𝓤) (A : Atoms 𝓤) (W : Given
         -- `copy_records`, with a copy of what the list owns
         move ! (8 ∷
         []) $ use1 W (‵ O₂ ⊛ ‵ O₂) (shr-slice-copy 𝓤 H A W (named 2) κ₂ R .twice gaps (slice-vals gaps)) $ split ! $ nothing ! $ move ! (20 ∷ 0 ∷
-        []) $ join ! $ move ! (0 ∷ 1 ∷ 3 ∷ []) $
+        []) $
+        join ! $ move ! (0 ∷ 1 ∷ 3 ∷ []) $
         use3 W (raw (Copied 𝓤 H A mem run .pre (to-copied v))) (goes-copied v) $
         calls-at ! fm (Copied 𝓤 H A mem run) known-copied (to-copied v)
         (and-then ! (load ! (from ! (stop !)) (look ! 68 refl)) (and-then ! (load ! (from ! (stop !)) (look ! 48 refl)) (no-more !))) (λ u.

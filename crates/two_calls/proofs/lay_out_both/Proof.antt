@@ -1,4 +1,4 @@
--- `two_calls::lay_out_both` meets its contract: a walk of its MIR, by hand. All that it knows of `lay_out` and
+-- `two_calls::lay_out_both` meets its contract: a walk of its MIR, written by tools/walks. All that it knows of `lay_out` and
 -- `lay_out_records` is that each meets its contract; demand 3 is the law `demand-3` of the two promises.
 -- Every parameter goes to one of the two calls for good, at its own lifetime, share and name.
 -- Assumes nothing.
@@ -593,10 +593,10 @@ module _ {M : Type 1} (𝓤 : URA M) (H : Heap 𝓤) (A : Atoms 𝓤) (W : Given
         (and-then ! (load ! (from ! (stop !)) (look ! 33 refl))
         (and-then ! (load ! (from ! (stop !)) (look ! 29 refl)) (no-more !))))))))))))))
         (λ v₁.
-        use1 W (later (some (λ (r : Answer). (tokens 13 κs₁ qs₁ ⊛ ‵ (N.the-row .own r (v₁ ∷
-        []))) ⊛ raw (Told₁ r)))) (id⊢ 𝓤 _) $ await ! tt $ pick ! (λ r₁. split ! $ split ! $ move ! (1 ∷ []) $
-        facts ! N.the-row (Is N.the-row) (shows 𝓤 H A N.the-row) r₁ (v₁ ∷
-        []) (λ is₁. land ! (from ! (stop !)) (init ! 60 refl (EL.lawful N.the-type N′.the-laws 𝓤 H A W tt .typed r₁ _ is₁ .0)) $
+        use1 W (later (some (λ (r : Answer). (tokens 13 κs₁ qs₁ ⊛ ‵ (N.the-row .own r (v₁ ∷ []))) ⊛ raw (Told₁ r)))) (id⊢ 𝓤 _) $ await ! tt $
+        pick ! (λ r₁. split ! $ split ! $ move ! (1 ∷ []) $
+        facts ! N.the-row (Is N.the-row) (shows 𝓤 H A N.the-row) r₁ (v₁ ∷ []) (λ is₁.
+        land ! (from ! (stop !)) (init ! 60 refl (EL.lawful N.the-type N′.the-laws 𝓤 H A W tt .typed r₁ _ is₁ .0)) $
         -- [the first call's tokens; what it says; the locals; what the second call asks]
         -- the second call's buffers are handed on
         assigns ! (addr ! (from ! (fld ! refl (hop ! (look-in ! 74 (sub ! 0 refl (whole !))) (stop !))))) (from ! (stop !)) (init ! 28 refl (
@@ -656,10 +656,10 @@ module _ {M : Type 1} (𝓤 : URA M) (H : Heap 𝓤) (A : Atoms 𝓤) (W : Given
         (and-then ! (load ! (from ! (stop !)) (look ! 7 refl))
         (and-then ! (load ! (from ! (stop !)) (look ! 3 refl)) (no-more !)))))))))))
         (λ v₂.
-        use1 W (later (some (λ (r : Answer). (tokens 10 κs₂ qs₂ ⊛ ‵ (N.the-row .own r (v₂ ∷
-        []))) ⊛ raw (Told₂ r)))) (id⊢ 𝓤 _) $ await ! tt $ pick ! (λ r₂. split ! $ split ! $ move ! (1 ∷ []) $
-        facts ! N.the-row (Is N.the-row) (shows 𝓤 H A N.the-row) r₂ (v₂ ∷
-        []) (λ is₂. land ! (from ! (stop !)) (init ! 60 refl (EL.lawful N.the-type N′.the-laws 𝓤 H A W tt .typed r₂ _ is₂ .0)) $
+        use1 W (later (some (λ (r : Answer). (tokens 10 κs₂ qs₂ ⊛ ‵ (N.the-row .own r (v₂ ∷ []))) ⊛ raw (Told₂ r)))) (id⊢ 𝓤 _) $ await ! tt $
+        pick ! (λ r₂. split ! $ split ! $ move ! (1 ∷ []) $
+        facts ! N.the-row (Is N.the-row) (shows 𝓤 H A N.the-row) r₂ (v₂ ∷ []) (λ is₂.
+        land ! (from ! (stop !)) (init ! 60 refl (EL.lawful N.the-type N′.the-laws 𝓤 H A W tt .typed r₂ _ is₂ .0)) $
         -- the two answers
         assigns ! (agg ! (and-then ! (load ! (from ! (stop !)) (look ! 62 refl))
         (and-then ! (load ! (from ! (stop !)) (look ! 60 refl)) (no-more !)))) (from ! (stop !))
