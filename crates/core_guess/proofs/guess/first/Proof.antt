@@ -16,10 +16,10 @@ weigh-requires : tie.Need-weigh-requires
 weigh-requires c κs = c .before .before .before .before .before .before .before .before .pre .0
 
 pull-exact-requires : tie.Need-pull-exact-requires
-pull-exact-requires c κs = c .before .before .before .before .before .before .before .before .before .before .before .before .before .pre
+pull-exact-requires c κs = c .before .before .before .before .before .before .before .before .before .before .before .before .before .before .pre
 
 pull-all-requires : tie.Need-pull-all-requires
-pull-all-requires c κs = c .before .before .before .before .before .before .before .before .before .before .before .before .before .before .before .before .before .before .before .pre
+pull-all-requires c κs = c .before .before .before .before .before .before .before .before .before .before .before .before .before .before .before .before .before .before .before .before .before .pre
 
 returns : tie.Need-returns
 returns c = c .pull-all .ensures

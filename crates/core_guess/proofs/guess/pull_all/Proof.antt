@@ -7,10 +7,10 @@ use Rattle.core_guess.proofs.guess.pull_all.Statement.{statement}
 use Rattle.core_guess.proofs.guess.pull_all.Tie as tie
 
 abbrev Inv-loop : tie.InvT-loop
-Inv-loop labels gaps left right reach block₀ place₀ total₀ wish₀ way₀ found₀ turns₀ block place total wish way found turns = (turns ≤ labels) × Wished gaps wish₀ wish
+Inv-loop labels gaps left right reach block₀ place₀ total₀ way₀ wish₀ found₀ turns₀ block place total way wish found turns = (turns ≤ labels) × Wished gaps wish₀ wish
 
 abbrev μ-loop : tie.MeasureT-loop
-μ-loop labels gaps left right reach block₀ place₀ total₀ wish₀ way₀ found₀ turns₀ block place total wish way found turns = labels - turns
+μ-loop labels gaps left right reach block₀ place₀ total₀ way₀ wish₀ found₀ turns₀ block place total way wish found turns = labels - turns
 
 loop-holds : tie.Need-loop-holds Inv-loop μ-loop
 loop-holds c = (omega arith, wished-none)

@@ -16,12 +16,12 @@ mend-requires : tie.Need-mend-requires
 mend-requires c κs = c .before .before .before .before .before .before .before .before .before .before .before .pre
 
 pull-all-requires : tie.Need-pull-all-requires
-pull-all-requires c κs = c .before .before .before .before .before .before .before .before .before .before .before .before .before .before .before .before .pre
+pull-all-requires c κs = c .before .before .before .before .before .before .before .before .before .before .before .before .before .before .before .before .before .pre
 
 returns : tie.Need-returns
 returns c =
-    let copied = c .before .before .before .before .before .before .before .before .before .before .before .before .before .before .before .take .ensures in
-    regrown copied (c .before .before .before .before .before .mend .ensures) (c .pull-all .ensures)
+    let copied = c .before .before .before .before .before .before .before .before .before .before .before .before .before .before .before .before .take .ensures in
+    regrown copied (c .before .before .before .before .before .before .mend .ensures) (c .pull-all .ensures)
 
 pub regrow-spec : {M : Type 1} → statement M
 regrow-spec =
