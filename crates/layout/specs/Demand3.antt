@@ -1,4 +1,4 @@
--- Demand 3, the largest-move law (document 01, "What a station lends"), of two layout calls.
+-- Demand 3, the largest-move law (document 01, "What a station lends"; document 02, Item 6), of two layout calls.
 -- Each is lent its gaps as lists or as records: "the pair may be one of each", or two of one form.
 -- It holds of any two calls that keep their promises (`demand-3` in proofs/Demand3).
 use Prim.Native.Nat.{ℕ, _<_}

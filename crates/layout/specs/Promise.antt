@@ -53,7 +53,7 @@ pub record Accepted (s : Sheet) (w after : Written) : Type 0 where
   pub den-most : (i : Label) → i .0 < s .labels → natAbs (placeOf after i .den) ≤ placeDenMost
   pub near : (i : Label) → i .0 < s .labels → natAbs (placeOf after i .num) ≤ placeMost * natAbs (placeOf after i .den)
 
--- the steps that the fronts of the two ring buffers tell
+-- the steps that the fronts of the two ring buffers tell: "beside each gap number" its byte
 abbrev pub stepsTold : ℕ → Written → List Step
 stepsTold size w = stepsOf (take size (w .ring)) (take size (w .back))
 

@@ -220,8 +220,7 @@ crossing =
     }
 
 -- document 02, Item 6, for which this sheet and the next four were worked out: wants 0 and 10, weights 1, exact gap 0 to 1
--- of 6: 2, 8. The gap pulls its labels together, and so
--- its multiplier, -4, is below zero: it "may have either sign"
+-- of 6: 2, 8. The gap pulls its labels together, and so its multiplier, -4, is below zero: it "may have either sign"
 abbrev pub joined : Placed
 joined =
     record {

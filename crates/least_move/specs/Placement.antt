@@ -66,8 +66,9 @@ move s p i = p i ⊖ whole (s .wanted i)
 unfoldable pub cost : Sheet → Placement → Fraction
 cost s p = total (s .labels) (λ k. s .weight (label k) ⊛ square (move s p (label k)))
 
--- "the feasible placement with the least sum", among all placements in fractions; "It is unique when a feasible one exists"
--- (`least-unique` in proofs/Laws)
+-- "the feasible placement with the least sum", among all placements in fractions; "Least move, the largest-move law and the
+-- slack records now speak of both kinds" (document 02, Item 6). "It is unique when a feasible one exists"
+-- (`least-move-unique` in layout/proofs/Laws, by `least-unique` in proofs/Laws)
 pub record LeastMove (s : Sheet) (p : Placement) : Type 0 where
   pub feasible : Feasible s p
   pub least : (q : Placement) → Feasible s q → cost s p ≼ cost s q

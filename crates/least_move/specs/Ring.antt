@@ -26,13 +26,13 @@ abbrev pub distanceSum : Sheet → List Step → ℤ
 distanceSum s [] = pos 0
 distanceSum s (t ∷ ts) = distanceOf s t +ℤ distanceSum s ts
 
--- "no label is a left label twice", of the ends as walked
+-- "no label is a left label twice", "of the ends as walked"
 abbrev pub OnceLeft : Sheet → List Step → Type 0
 OnceLeft s [] = Unit {0}
 OnceLeft s (t ∷ ts) = Each (λ r. start s r ≢ start s t) ts × OnceLeft s ts
 
 -- "each gap's right label is the next one's left, the last joins the first, no label is a left label twice,
--- and the distances sum above zero"
+-- and the distances sum above zero"; "document 01's ring rules speak of the ends as walked" (document 02, Item 6)
 pub record Ring (s : Sheet) (first : Step) (rest : List Step) : Type 0 where
   pub closed : Leads s (finish s first) rest (start s first)
   pub passable : Each (λ t. (t .by .0 < s .gaps) × Passable (s .gap (t .by) .kind) (t .backwards)) (first ∷ rest)

@@ -108,7 +108,7 @@ pub fn lay_out_room(
 }
 
 // Lays out a sheet twice: its gaps are lent as lists, and as the first `count` records of an array. Both carried records
-// are lent as `count` bytes, so lists of another number of gaps are refused with 3.
+// are lent as `count` bytes, so lists of another number of gaps are refused: with 3, where neither 1 nor 2 is met.
 pub fn lay_out_rooms(
     fill: i64,
     mut carried: RecordBytes,

@@ -37,7 +37,7 @@ pub record Written : Type 0 where
   pub carried : List ℕ
 
 -- "Labels are counted by the list of wanted places, gaps by the list of left labels,
--- or by the list of records where that is lent"
+-- or by the list of records where that is lent"; "an exact gap counts once towards 192" (document 02, Item 6)
 abbrev pub labelCount : Read → ℕ
 labelCount r = length (r .wanted)
 

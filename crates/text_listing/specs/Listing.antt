@@ -27,7 +27,8 @@ use Rattle.ground.specs.Entries.{nat, int}
 use Rattle.ground.specs.Limits.{labelsMost, gapsMost}
 use Rattle.ground.specs.Views.{Param}
 
--- what a listing is made of: a place for each label, and of each gap what its slack depends on, which its kind is not
+-- what a listing is made of: a place for each label, and of each gap what its slack depends on, which its kind is not: "the
+-- slack records now speak of both kinds" (document 02, Item 6)
 pub record Listable : Type 0 where
   pub place-num : List ℤ
   pub place-den : List ℤ

@@ -23,8 +23,8 @@ use denote.Triple.Both.{Both}
 use Rattle.ground.specs.Views.{Param}
 use denote.Ref.{RefT, now}
 
--- the labels and the gaps of a text, each in the order of their records; "a gap may come before the labels it names". Gaps
--- of both kinds have one numbering
+-- the labels and the gaps of a text, each in the order of their records; "a gap may come before the labels it names". "Gaps
+-- are numbered in the order of their records", those of both kinds together: "an exact gap counts once towards 192"
 pub record Typed : Type 0 where
   pub labels : List LabelRow
   pub gaps : List GapRecord

@@ -33,7 +33,7 @@ gapWord = bytes "gap"
 abbrev pub sameWord : List ℕ
 sameWord = bytes "same"
 
--- the word in front of a gap, by its kind
+-- the word in front of a gap, by its kind: of an exact one "the word same"
 abbrev pub kindWord : ℕ → List ℕ
 kindWord kind = cond (eqb kind exactlyByte) sameWord gapWord
 
@@ -73,8 +73,8 @@ abbrev pub fieldAt : List (List ℕ) → ℕ → List ℕ
 fieldAt fs zero = []
 fieldAt fs (suc k) = getD fs k []
 
--- "10 is left for a line without four fields. A first field that is neither kind is 13", which with Item 6 is none of three words: 10, then 13,
--- then the rest. "Blank lines are bad lines": a blank one has one field
+-- "10 is left for a line without four fields. A first field that is neither kind is 13", which with Item 6 is none of three
+-- words: 10, then 13, then the rest. "Blank lines are bad lines": a blank one has one field
 unfoldable pub rowOf : Earlier → List (List ℕ) → Taken
 rowOf earlier fs =
     cond (eqb (length fs) 4)
