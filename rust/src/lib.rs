@@ -194,6 +194,48 @@ pub struct Room<'a> {
 /// assert_eq!(steps, [(&0, &BACKWARDS), (&1, &FORWARDS)]);
 /// assert_eq!((ring[2], back[2]), (7, 7));
 /// ```
+///
+/// Of two placed sheets that differ in wants only, whatever rooms they are lent: no place moves further
+/// than the want that moves furthest, and where no want moves the numbers are the same. If no want
+/// goes down no place goes down, and if none goes up none goes up. The sum over all labels of weight
+/// times squared change of place is at most that of weight times change of place times change of want.
+/// That is so of the fractions, not of whole units.
+///
+/// ```
+/// use dirmoog::{lay_out, Answer, Room, Sheet, AT_LEAST};
+///
+/// // Two labels with a gap of 10, from any carried record: the numerators of their places.
+/// let places = |wanted: [i64; 2], carried: u8| {
+///     let sheet = Sheet {
+///         wanted: &wanted,
+///         weight: &[1, 1],
+///         left: &[0],
+///         right: &[1],
+///         distance: &[10],
+///         kind: &[AT_LEAST],
+///     };
+///     let (mut place_num, mut place_den) = ([0; 2], [0; 2]);
+///     let mut room = Room {
+///         carried: &mut [carried],
+///         place_num: &mut place_num,
+///         place_den: &mut place_den,
+///         mult_num: &mut [0],
+///         mult_den: &mut [0],
+///         ring: &mut [0; 2],
+///         back: &mut [0; 2],
+///     };
+///     assert_eq!(lay_out(&sheet, &mut room), Answer::Placed);
+///     assert_eq!(place_den, [1, 1]);
+///     place_num
+/// };
+/// let (first, second) = (places([0, 0], 0), places([0, 20], 1));
+/// assert_eq!((first, second), ([-5, 5], [0, 20]));
+/// // the places change by 5 and 15, the wants by 0 and 20
+/// let changes = [second[0] - first[0], second[1] - first[1]];
+/// assert!(changes[0] >= 0 && changes[1] >= 0);
+/// let squares = changes[0] * changes[0] + changes[1] * changes[1];
+/// assert!(squares <= changes[1] * 20);
+/// ```
 pub fn lay_out(sheet: &Sheet<'_>, room: &mut Room<'_>) -> Answer {
     let mut out = [0; 2];
     // SAFETY: every pointer and length is that of a slice, and the slices that are written are borrowed for writing.

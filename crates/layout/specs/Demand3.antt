@@ -5,12 +5,9 @@ use Prim.Native.Nat.{ℕ, _<_}
 use mathlib.Core.Path.{_≡_}
 use mathlib.Core.Logic.{_↔_}
 use lib.ListN.{getD}
-use lib.IntN.{ℤ, pos}
-use Rattle.exact.specs.declared.Fraction.{Fraction}
-use Rattle.exact.specs.Fraction.{IsFraction, _≼_, whole}
-use Rattle.ground.specs.declared.Label.{Label}
+use lib.IntN.{pos}
 use Rattle.least_move.specs.Placement.{Placement, Feasible, LeastMove}
-use Rattle.least_move.specs.Moved.{Within}
+use Rattle.least_move.specs.Moved.{LargestMove}
 use Rattle.ground.specs.declared.Answer.{Answer}
 use Rattle.ground.specs.declared.Answer.the-variants.{Placed}
 use Rattle.sheet_checks.specs.Lent.{Read, Written, labelCount, gapCount, recordAt, sheetOf, placeOf}
@@ -24,10 +21,6 @@ pub record SameSheets (r r′ : Read) : Type 0 where
   pub gaps : gapCount r′ ≡ gapCount r
   pub weight : (k : ℕ) → k < labelCount r → getD (r′ .weight) k (pos 0) ≡ getD (r .weight) k (pos 0)
   pub gap : (k : ℕ) → k < gapCount r → recordAt (r′ .gaps) k ≡ recordAt (r .gaps) k
-
--- the wanted place of a label
-abbrev pub wantOf : Read → Label → ℤ
-wantOf r i = getD (r .wanted) (i .0) (pos 0)
 
 -- some placement meets all gaps of the sheet
 abbrev pub Placeable : Read → Type 0
@@ -45,12 +38,5 @@ pub record Demand3 (r : Read) (w : Written) (a : Answer) (after : Written) (r′
   -- the places are the least moves of demand 2
   pub least : a ≡ Placed → LeastMove (sheetOf r) (placeOf after)
   pub least′ : a′ ≡ Placed → LeastMove (sheetOf r′) (placeOf after′)
-  -- no place moves by more than a distance if no want does:
-  -- "Differences are taken without sign, and a distance is any fraction from zero up"
-  pub largest-move : a ≡ Placed → a′ ≡ Placed → (q : Fraction) → IsFraction q → whole (pos 0) ≼ q
-      → ((i : Label) → i .0 < labelCount r → Within q (whole (wantOf r i)) (whole (wantOf r′ i))) → (i : Label) → i .0 < labelCount r
-      → Within q (placeOf after i) (placeOf after′ i)
-  -- at distance zero the numbers written are the same
-  pub same-wants : a ≡ Placed → a′ ≡ Placed → ((i : Label) → i .0 < labelCount r → wantOf r i ≡ wantOf r′ i) → (k : ℕ) → k < labelCount r
-      → (getD (after .place-num) k (pos 0) ≡ getD (after′ .place-num) k (pos 0))
-      × (getD (after .place-den) k (pos 0) ≡ getD (after′ .place-den) k (pos 0))
+  -- no place moves by more than a distance if no want does, and at distance zero the numbers written are the same
+  pub largest-move : a ≡ Placed → a′ ≡ Placed → LargestMove (sheetOf r) (sheetOf r′) (placeOf after) (placeOf after′)

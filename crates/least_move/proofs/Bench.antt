@@ -25,6 +25,7 @@ use Rattle.least_move.specs.Placement.{Placement, slackOf, HoldsWith, Fe
 use Rattle.least_move.specs.Multipliers.{Multipliers, Lawful, Conditions}
 use Rattle.least_move.specs.Marks.{Step, start, finish, Leads}
 use Rattle.least_move.specs.Ring.{Ring, Passable, OnceLeft, distanceSum, IsRing}
+use Rattle.least_move.specs.Moved.{SameButWants}
 use Rattle.least_move.specs.Bench.{WrittenGap, _to_of_, Source, given, worked-out, Placed, Refused, Moved, Case, placed, refused, moved}
 use Rattle.least_move.specs.Bench.{bench, gapOf, written, sheetOf, placement, multipliers, OnlyMultipliers, RightPlaced, RightRefused, RightMoved, RightCase}
 use Rattle.least_move.proofs.Laws.{least-of-conditions, ring-excludes}
@@ -56,7 +57,7 @@ f on a =
     }
 
 -- one of two
-one-passes : (a b : Bool) → T (a || b) → T a ⊎ T b
+pub one-passes : (a b : Bool) → T (a || b) → T a ⊎ T b
 one-passes true b h = inl tt
 one-passes false b h = inr h
 
@@ -80,7 +81,7 @@ abbrev below : (n : ℕ) {P : ℕ → Type 0} → ((k : ℕ) → Test (P k)) →
 below zero t = granted (λ k h. absurd (omega arith))
 below (suc n) {P} t = granted (λ last others k h. ⊎-elim (λ e. subst⁻¹ P e last) (λ l. others k l) (last-or-below k n h)) on t n on below n t
 
-abbrev labels : {n : ℕ} {P : Label → Type 0} → ((i : Label) → Test (P i)) → Test ((i : Label) → i .0 < n → P i)
+abbrev pub labels : {n : ℕ} {P : Label → Type 0} → ((i : Label) → Test (P i)) → Test ((i : Label) → i .0 < n → P i)
 labels {n} t = granted (λ h i. h (i .0)) on below n (λ k. t (label k))
 
 abbrev gaps : {n : ℕ} {P : GapNumber → Type 0} → ((e : GapNumber) → Test (P e)) → Test ((e : GapNumber) → e .0 < n → P e)
@@ -102,13 +103,13 @@ unequal a b = record { passes = not (eqb a b); shows = λ h e. T-not (eqb a b) h
 abbrev less : (a b : ℕ) → Test (a < b)
 less a b = record { passes = ltb a b; shows = ltb→lt a b }
 
-abbrev at-mostℤ : (a b : ℤ) → Test (a ≤ℤ b)
+abbrev pub at-mostℤ : (a b : ℤ) → Test (a ≤ℤ b)
 at-mostℤ a b = record { passes = leZ a b; shows = λ h. record { le = h } }
 
 abbrev lessℤ : (a b : ℤ) → Test (a <ℤ b)
 lessℤ a b = record { passes = ltZ a b; shows = λ h. record { lt = h } }
 
-abbrev equalℤ : (a b : ℤ) → Test (a ≡ b)
+abbrev pub equalℤ : (a b : ℤ) → Test (a ≡ b)
 equalℤ a b = granted (λ (h : a ≤ℤ b) (k : b ≤ℤ a). le-antisym h k) on at-mostℤ a b on at-mostℤ b a
 
 abbrev unequalℤ : (a b : ℤ) → Test (¬ (a ≡ b))
@@ -126,7 +127,7 @@ unequal-label a b = granted (λ (n : a .0 ≢ b .0) e. n (ap (λ (l : Label). l 
 abbrev Undivided : Fraction → ℕ → Type 0
 Undivided q k = (k ≡ 1) ⊎ ((natAbs (q .num) % k ≢ 0) ⊎ (natAbs (q .den) % k ≢ 0))
 
-lowest : (q : Fraction) → pos 0 <ℤ q .den → ((k : ℕ) → k < suc (natAbs (q .den)) → Undivided q k) → LowestTerms q
+pub lowest : (q : Fraction) → pos 0 <ℤ q .den → ((k : ℕ) → k < suc (natAbs (q .den)) → Undivided q k) → LowestTerms q
 lowest q above tried =
     record {
       above = above;
@@ -370,7 +371,7 @@ no-placement : (s : Sheet) (l : List Step) → Proper s → IsRing s l → (p : 
 no-placement s [] h r = absurd r
 no-placement s (t ∷ l) h r = ring-excludes s h t l r
 
-abbrev placed? : (c : Placed) → Test (RightPlaced c)
+abbrev pub placed? : (c : Placed) → Test (RightPlaced c)
 placed? c =
     granted (λ proper a k b c′ d e o. record {
       weighted = a;
@@ -408,15 +409,21 @@ refused? c =
     on is-ring? (written (c .sheet)) (c .ring)
     on rings? (written (c .sheet)) (c .ring)
 
-abbrev moved? : (c : Moved) → Test (RightMoved c)
-moved? c =
-    granted (λ a b c′ d e f g h i. record { before = a; after = b; labels = c′; gaps = d; weight = e; gap = f; one = g; want = h; place = i })
-    on placed? (c .before)
-    on placed? (c .after)
+-- the sheets differ in wants only
+abbrev pub same? : (b a : Placed) → Test (SameButWants (sheetOf b) (sheetOf a))
+same? b a =
+    granted (λ l g w c. record { labels = l; gaps = g; weight = w; gap = c })
     on equal _ _
     on equal _ _
     on labels (λ i. equalℤ _ _)
-    on gaps (λ e. gap? (gapAt (c .after) e) (gapAt (c .before) e))
+    on gaps (λ e. gap? (gapAt a e) (gapAt b e))
+
+abbrev moved? : (c : Moved) → Test (RightMoved c)
+moved? c =
+    granted (λ a b s g h i. record { before = a; after = b; same = s; one = g; want = h; place = i })
+    on placed? (c .before)
+    on placed? (c .after)
+    on same? (c .before) (c .after)
     on less _ _
     on labels (λ i. equalℤ _ _)
     on labels (λ i. equalℤ _ _)

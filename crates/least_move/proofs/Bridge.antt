@@ -1,6 +1,6 @@
 -- From fractions to whole numbers at a common scale N above zero:
 -- what specs/ says of a sheet, its placement and its multipliers is what Scaled says.
-use mathlib.Core.Path.{_≡_, refl, sym, _∙_, ap, ap₂, subst}
+use mathlib.Core.Path.{_≡_, refl}
 use mathlib.Core.Logic.{_↔_, inl, inr, ⊎-elim}
 use mathlib.Core.Bool.{Bool, true, false, cond}
 use mathlib.Core.List.{List, [], _∷_}
@@ -15,14 +15,12 @@ use Rattle.algebra.specs.Sum.{sum, ind}
 use Rattle.exact.specs.Total.{total}
 use Rattle.algebra.proofs.Whole.{le-antisym, le-of-eq, not-le-of-lt, le-or-lt, one-*ℤ}
 use Rattle.algebra.proofs.Ring.{ring, quotes, le-given, eq-given, le-goal, eq-goal}
-use Rattle.algebra.proofs.Sum.{sum-cong}
 use Rattle.exact.proofs.Fractions.{AtScale, ≼-scale, ≃-scale, ⊕-scale, ⊖-scale, ⊛-scale, whole-scale, square-scale, total-scale, total-above, whole-above, ⊕-above, ⊖-above, square-above}
 use Rattle.ground.specs.declared.Label.{Label}
 use Rattle.ground.specs.declared.GapNumber.{GapNumber}
 use Rattle.least_move.specs.Sheet.{Sheet, Gap, Kind, at-least, exactly, ignored, Proper, label, gapNumber}
 use Rattle.least_move.specs.Placement.{Placement, Asks, reach, Holds, Tight, Feasible, move, cost}
 use Rattle.least_move.specs.Multipliers.{Multipliers, Lawful, counted, asRight, asLeft, Conditions}
-use Rattle.least_move.specs.Moved.{SameButWants}
 use Rattle.least_move.specs.States.{flow, costZ}
 use Rattle.least_move.proofs.Scaled.{slack, Meets-at, Lawful-at, ScaledConditions}
 use Rattle.least_move.proofs.Slack.{holds-asked, holds-asked-back, tight-asked, tight-asked-back}
@@ -247,44 +245,4 @@ module _ (s : Sheet) (proper : Proper s) {N : ℤ} (hN : pos 0 <ℤ N) (p : Plac
         right-in = λ e h. proper .right-in (gapNumber e) h;
         lawful = lawful-at;
         balance = balance-at;
-      }
-
--- ---- sheets that differ in their wants alone
-
-module _ (s t : Sheet) (same : SameButWants s t) where
-  labels-below : (i : ℕ) → i < s .labels → i < t .labels
-  labels-below i h = omega (arith, same .labels)
-
-  gaps-below : (e : ℕ) → e < s .gaps → e < t .gaps
-  gaps-below e h = omega (arith, same .gaps)
-
-  pub proper-same : Proper s → Proper t
-  proper-same c =
-      record {
-        heavy = λ i h. let k : i .0 < s .labels = omega (arith, same .labels) in rw (same .weight i k) (c .heavy i k);
-        left-in = λ e h. let k : e .0 < s .gaps = omega (arith, same .gaps) in rw (same .gap e k, same .labels) (c .left-in e k);
-        right-in = λ e h. let k : e .0 < s .gaps = omega (arith, same .gaps) in rw (same .gap e k, same .labels) (c .right-in e k);
-      }
-
-  same-flow : (end : Gap → Label) (Λ : ℕ → ℤ) (i : ℕ) → sum (t .gaps) (λ e. ind (eqb (end (t .gap (gapNumber e)) .0) i) *ℤ Λ e) ≡ sum (s .gaps) (λ e. ind (eqb (end (s .gap (gapNumber e)) .0) i) *ℤ Λ e)
-  same-flow end Λ i =
-      ap (λ k. sum k (λ e. ind (eqb (end (t .gap (gapNumber e)) .0) i) *ℤ Λ e)) (same .gaps)
-      ∙ sum-cong (s .gaps) (λ e. ind (eqb (end (t .gap (gapNumber e)) .0) i) *ℤ Λ e) (λ e. ind (eqb (end (s .gap (gapNumber e)) .0) i) *ℤ Λ e)
-      (λ e h. ap (λ g. ind (eqb (end g .0) i) *ℤ Λ e) (same .gap (gapNumber e) h))
-
-  -- the conditions of the one in the other's terms
-  pub same-at : (N : ℤ) {D X Λ : ℕ → ℤ} → Conditions-at t N D X Λ → Conditions-at s N D X Λ
-  same-at N {D} {X} {Λ} c =
-      record {
-        heavy = λ i h. rw (same .weight (label i) h) at (c .heavy i (labels-below i h));
-        left-in = λ e h.
-            rw (same .labels) at (subst (λ (g : Gap). g .left .0 < t .labels) (same .gap (gapNumber e) h) (c .left-in e (gaps-below e h)));
-        right-in = λ e h.
-            rw (same .labels) at (subst (λ (g : Gap). g .right .0 < t .labels) (same .gap (gapNumber e) h) (c .right-in e (gaps-below e h)));
-        lawful = λ e h.
-            subst (λ (g : Gap). Lawful-at (g .kind) (Λ e) (X (g .right .0) -ℤ X (g .left .0) -ℤ N *ℤ g .distance)) (same .gap (gapNumber e) h)
-            (c .lawful e (gaps-below e h));
-        balance = λ i h.
-            ap (λ x. pos 2 *ℤ (x *ℤ (X i -ℤ D i))) (sym (same .weight (label i) h)) ∙ c .balance i (labels-below i h)
-            ∙ ap₂ (λ a b. a -ℤ b) (same-flow (λ g. g .right) Λ i) (same-flow (λ g. g .left) Λ i);
       }

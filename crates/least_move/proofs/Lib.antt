@@ -3,6 +3,8 @@ pub mod Scaled
 pub mod Slack
 pub mod Bridge
 pub mod Laws
+pub mod Stationary
+pub mod Moved
 pub mod Forest
 pub mod Decided
 pub mod Places
@@ -10,6 +12,7 @@ pub mod Opposite
 pub mod WholeUnits
 pub mod WrongUnits
 pub mod Bench
+pub mod Revisions
 pub mod Progress
 pub mod Advance
 pub mod Blocks
@@ -17,3 +20,4 @@ pub mod Sides
 pub mod Unscaled
 pub mod Ending
 pub mod WrongConditions
+pub mod WrongMoves

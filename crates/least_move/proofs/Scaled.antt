@@ -3,16 +3,16 @@
 -- Gap e goes from label u e to label v e. All rests on summation by parts (Flow) and on `pull`,
 -- what one gap contributes.
 use mathlib.Core.Path.{_≡_, refl, sym, _∙_, ap, ap₂}
-use mathlib.Core.Logic.{_⊎_, inl, inr, ⊎-elim}
+use mathlib.Core.Logic.{_⊎_, ⊎-elim}
 use mathlib.Core.List.{List, [], _∷_}
 use Prim.Native.Nat.{ℕ, _<_}
 use native.Mathlib.Omega.{arith}
 use lib.IntN.{ℤ, pos, _+ℤ_, _-ℤ_, _*ℤ_}
 use lib.Signed.{_≤ℤ_, _<ℤ_}
 use Rattle.algebra.specs.Sum.{sum}
-use Rattle.algebra.proofs.Whole.{le-trans, le-antisym, le-of-eq, le-of-lt, lt-of-le-of-lt, not-le-of-lt, le-or-lt, *ℤ-nonneg, *ℤ-above, square-nonneg, sub-nonneg, sub-above}
+use Rattle.algebra.proofs.Whole.{le-trans, le-antisym, le-of-eq, le-of-lt, not-le-of-lt, le-or-lt, *ℤ-nonneg, *ℤ-above, square-nonneg, sub-nonneg, sub-above}
 use Rattle.algebra.proofs.Ring.{ring, quotes, le-given, eq-given, le-goal, eq-goal, le-by}
-use Rattle.algebra.proofs.Sum.{sum-cong, sum-+, sum--, sum-*, sum-zero, sum-le, sum-nonneg, sum-nonneg-zero}
+use Rattle.algebra.proofs.Sum.{sum-cong, sum-+, sum-nonneg, sum-nonneg-zero}
 use Rattle.least_move.specs.Sheet.{Kind, at-least, exactly, ignored}
 use Rattle.least_move.specs.States.{flow, costZ}
 use Rattle.least_move.proofs.Flow.{by-parts}
@@ -41,11 +41,6 @@ Lawful-at at-least l s = Pressed l s
 Lawful-at exactly l s = s ≡ pos 0
 Lawful-at ignored l s = l ≡ pos 0
 
-pub lawful-meets : (k : Kind) (l s : ℤ) → Lawful-at k l s → Meets-at k s
-lawful-meets at-least l s h = h .meets
-lawful-meets exactly l s h = h
-lawful-meets ignored l s h = tt
-
 -- the conditions of specs/Multipliers, of n labels and m gaps
 pub record ScaledConditions (n m : ℕ) (u v : ℕ → ℕ) (w G : ℕ → ℤ) (kind : ℕ → Kind) (D X Λ : ℕ → ℤ) : Type 0 where
   pub heavy : (i : ℕ) → i < n → pos 0 <ℤ w i
@@ -64,7 +59,7 @@ pulls m u v Λ X Y = sum m (λ e. Λ e *ℤ ((Y (v e) -ℤ X (v e)) -ℤ (Y (u e
 
 -- ---- one gap
 
-zero-times : {l : ℤ} (x : ℤ) → l ≡ pos 0 → pos 0 ≤ℤ (l *ℤ x)
+pub zero-times : {l : ℤ} (x : ℤ) → l ≡ pos 0 → pos 0 ≤ℤ (l *ℤ x)
 zero-times {l} x e = le-of-eq (sym (ap (λ t. t *ℤ x) e ∙ ring (x ∷ []) (search quotes depth 12) (search quotes depth 12) refl))
 
 -- slack that meets, against slack that is none
@@ -86,22 +81,18 @@ both-none s t c d z y e =
 times-same : (l a b : ℤ) → a ≡ b → pos 0 ≤ℤ (l *ℤ (a -ℤ b))
 times-same l a b e = le-of-eq (sym (ap (λ x. l *ℤ (x -ℤ b)) e ∙ ring (l ∷ b ∷ []) (search quotes depth 12) (search quotes depth 12) refl))
 
--- a function that never falls
-abbrev pub NeverFalls : (ℤ → ℤ) → Type 0
-NeverFalls φ = (a b : ℤ) → a ≤ℤ b → φ a ≤ℤ φ b
-
 -- A gap with a multiplier l and slack s, against a placement that meets it with slack t:
--- the gap pulls the way that t is above s, seen through any φ that never falls.
-pub pull : (φ : ℤ → ℤ) → NeverFalls φ → (k : Kind) (l s t c d : ℤ) → Lawful-at k l s → Meets-at k t → t -ℤ s ≡ c -ℤ d → pos 0 ≤ℤ (l *ℤ (φ c -ℤ φ d))
-pull φ mono at-least l s t c d h k e =
-    ⊎-elim (zero-times (φ c -ℤ φ d)) (λ (z : s ≡ pos 0). *ℤ-nonneg (h .carries) (sub-nonneg (mono d c (met-above s t c d z k e)))) (h .one)
-pull φ mono exactly l s t c d h k e = times-same l (φ c) (φ d) (ap φ (both-none s t c d h k e))
-pull φ mono ignored l s t c d h k e = zero-times (φ c -ℤ φ d) h
+-- the gap pulls the way that t is above s.
+pub pull : (k : Kind) (l s t c d : ℤ) → Lawful-at k l s → Meets-at k t → t -ℤ s ≡ c -ℤ d → pos 0 ≤ℤ (l *ℤ (c -ℤ d))
+pull at-least l s t c d h k e =
+    ⊎-elim (zero-times (c -ℤ d)) (λ (z : s ≡ pos 0). *ℤ-nonneg (h .carries) (sub-nonneg (met-above s t c d z k e))) (h .one)
+pull exactly l s t c d h k e = times-same l c d (both-none s t c d h k e)
+pull ignored l s t c d h k e = zero-times (c -ℤ d) h
 
 -- ---- numbers above zero
 
 -- a number above zero is not zero
-not-zero : {a : ℤ} → pos 0 <ℤ a → a ≡ pos 0 → ⊥
+pub not-zero : {a : ℤ} → pos 0 <ℤ a → a ≡ pos 0 → ⊥
 not-zero h e = not-le-of-lt h (le-of-eq e)
 
 -- numbers whose weighted square difference is zero are the same
@@ -113,16 +104,6 @@ square-none a y x h e =
   where
     turned : a *ℤ ((x -ℤ y) *ℤ (x -ℤ y)) ≡ a *ℤ ((y -ℤ x) *ℤ (y -ℤ x))
     turned = ring (a ∷ x ∷ y ∷ []) (search quotes depth 12) (search quotes depth 12) refl
-
-to-bound : (a b : ℤ) → a ≤ℤ b → (a -ℤ b) ≤ℤ pos 0
-to-bound a b h =
-    let ρ : List ℤ = a ∷ b ∷ [] in
-    le-goal ρ (search quotes depth 12) (search quotes depth 12) (omega (arith, le-given ρ (search quotes depth 12) (search quotes depth 12) h))
-
-from-bound : (a b : ℤ) → (a -ℤ b) ≤ℤ pos 0 → a ≤ℤ b
-from-bound a b h =
-    let ρ : List ℤ = a ∷ b ∷ [] in
-    le-goal ρ (search quotes depth 12) (search quotes depth 12) (omega (arith, le-given ρ (search quotes depth 12) (search quotes depth 12) h))
 
 -- ---- least and unique
 
@@ -144,7 +125,7 @@ module _ {n m : ℕ} {u v : ℕ → ℕ} {w G : ℕ → ℤ} {kind : ℕ → Kin
     pulls-nonneg : pos 0 ≤ℤ pulls m u v Λ X Y
     pulls-nonneg =
         sum-nonneg m (λ e. Λ e *ℤ ((Y (v e) -ℤ X (v e)) -ℤ (Y (u e) -ℤ X (u e))))
-        (λ e h. pull (λ x. x) (λ a b k. k) (kind e) (Λ e) (slack u v G X e) (slack u v G Y e) (Y (v e) -ℤ X (v e)) (Y (u e) -ℤ X (u e))
+        (λ e h. pull (kind e) (Λ e) (slack u v G X e) (slack u v G Y e) (Y (v e) -ℤ X (v e)) (Y (u e) -ℤ X (u e))
         (c .lawful e h) (meets e h)
         (ring (Y (v e) ∷ Y (u e) ∷ X (v e) ∷ X (u e) ∷ G e ∷ []) (search quotes depth 12) (search quotes depth 12) refl))
 
@@ -168,121 +149,3 @@ module _ {n m : ℕ} {u v : ℕ → ℕ} {w G : ℕ → ℤ} {kind : ℕ → Kin
         no-room a b k =
             let ρ : List ℤ = a ∷ b ∷ [] in
             le-goal ρ (search quotes depth 12) (search quotes depth 12) (omega (arith, le-given ρ (search quotes depth 12) (search quotes depth 12) k))
-
--- ---- moved wants
-
--- one label's term of the law below
-abbrev pub moved : (φ : ℤ → ℤ) (w D D′ X X′ : ℕ → ℤ) → ℕ → ℤ
-moved φ w D D′ X X′ i = φ (X i -ℤ X′ i) *ℤ (pos 2 *ℤ (w i *ℤ ((X i -ℤ X′ i) -ℤ (D i -ℤ D′ i))))
-
--- one above B, else zero
-abbrev step : {a B : ℤ} → (a ≤ℤ B) ⊎ (B <ℤ a) → ℤ
-step (inl h) = pos 0
-step (inr h) = pos 1
-
-abbrev over : ℤ → ℤ → ℤ
-over B a = step (le-or-lt a B)
-
-step-mono : {a b B : ℤ} → a ≤ℤ b → (s : (a ≤ℤ B) ⊎ (B <ℤ a)) (t : (b ≤ℤ B) ⊎ (B <ℤ b)) → step s ≤ℤ step t
-step-mono h (inl k) (inl l) = record { le = tt }
-step-mono h (inl k) (inr l) = record { le = tt }
-step-mono h (inr k) (inl l) = absurd (not-le-of-lt k (le-trans h l))
-step-mono h (inr k) (inr l) = record { le = tt }
-
-over-mono : (B : ℤ) → NeverFalls (over B)
-over-mono B a b h = step-mono h (le-or-lt a B) (le-or-lt b B)
-
--- a label that moves by more than B where its want does not: its term of the law is above zero
-term-above : {a d w B : ℤ} → B <ℤ a → pos 0 <ℤ w → d ≤ℤ B → pos 0 <ℤ (pos 2 *ℤ (w *ℤ (a -ℤ d)))
-term-above h k l = *ℤ-above {a = pos 2} (record { lt = tt }) (*ℤ-above k (sub-above (lt-of-le-of-lt l h)))
-
-over-nonneg : {a d w B : ℤ} (s : (a ≤ℤ B) ⊎ (B <ℤ a)) → pos 0 <ℤ w → d ≤ℤ B → pos 0 ≤ℤ (step s *ℤ (pos 2 *ℤ (w *ℤ (a -ℤ d))))
-over-nonneg {a} {d} {w} (inl h) k l = zero-times {l = pos 0} (pos 2 *ℤ (w *ℤ (a -ℤ d))) refl
-over-nonneg (inr h) k l = *ℤ-nonneg {a = pos 1} (record { le = tt }) (le-of-lt (term-above h k l))
-
-not-above : {d w B : ℤ} (a : ℤ) (s : (a ≤ℤ B) ⊎ (B <ℤ a)) → pos 0 <ℤ w → d ≤ℤ B → step s *ℤ (pos 2 *ℤ (w *ℤ (a -ℤ d))) ≡ pos 0 → a ≤ℤ B
-not-above a (inl h) k l e = h
-not-above a (inr h) k l e = absurd (not-zero (*ℤ-above {a = pos 1} (record { lt = tt }) (term-above h k l)) e)
-
--- two sheets that differ in their wants alone, each with its conditions
-module _ {n m : ℕ} {u v : ℕ → ℕ} {w G : ℕ → ℤ} {kind : ℕ → Kind} {D X Λ D′ X′ Λ′ : ℕ → ℤ} (c : ScaledConditions n m u v w G kind D X Λ) (c′ : ScaledConditions n m u v w G kind D′ X′ Λ′) where
-  -- the law that all laws of moved wants are instances of
-  pub moved-law : (φ : ℤ → ℤ) → NeverFalls φ → sum n (moved φ w D D′ X X′) ≤ℤ pos 0
-  moved-law φ mono =
-      below (sum n (moved φ w D D′ X X′)) (sum m one) (sum m two)
-      (sum-cong n (moved φ w D D′ X X′) (λ i. ψ i *ℤ flow m u v Λ i -ℤ ψ i *ℤ flow m u v Λ′ i)
-      (λ i h. ring (ψ i ∷ w i ∷ X i ∷ X′ i ∷ D i ∷ D′ i ∷ []) (search quotes depth 12) (search quotes depth 12) refl
-      ∙ ap₂ (λ a b. ψ i *ℤ a -ℤ ψ i *ℤ b) (c .balance i h) (c′ .balance i h))
-      ∙ sum-- n (λ i. ψ i *ℤ flow m u v Λ i) (λ i. ψ i *ℤ flow m u v Λ′ i)
-      ∙ ap₂ (λ a b. a -ℤ b) (by-parts n m u v Λ ψ (c .left-in) (c .right-in)) (by-parts n m u v Λ′ ψ (c .left-in) (c .right-in)))
-      (le-trans (sum-le m one (λ _. pos 0) first) (le-of-eq (sum-zero m (λ _. pos 0) (λ _ _. refl))))
-      (sum-nonneg m two second)
-    where
-      ψ : ℕ → ℤ
-      ψ i = φ (X i -ℤ X′ i)
-
-      one : ℕ → ℤ
-      one e = Λ e *ℤ (ψ (v e) -ℤ ψ (u e))
-
-      two : ℕ → ℤ
-      two e = Λ′ e *ℤ (ψ (v e) -ℤ ψ (u e))
-
-      below : (s a b : ℤ) → s ≡ a -ℤ b → a ≤ℤ pos 0 → pos 0 ≤ℤ b → s ≤ℤ pos 0
-      below s a b e h k =
-          let ρ : List ℤ = s ∷ a ∷ b ∷ [] in
-          le-goal ρ (search quotes depth 12) (search quotes depth 12)
-          (omega
-          (arith, eq-given ρ (search quotes depth 12) (search quotes depth 12) e, le-given ρ (search quotes depth 12) (search quotes depth 12) h, le-given ρ (search quotes depth 12) (search quotes depth 12) k))
-
-      turn : (l a b : ℤ) → pos 0 ≤ℤ (l *ℤ (a -ℤ b)) → (l *ℤ (b -ℤ a)) ≤ℤ pos 0
-      turn l a b h =
-          let ρ : List ℤ = l ∷ a ∷ b ∷ [] in
-          le-goal ρ (search quotes depth 12) (search quotes depth 12) (omega (arith, le-given ρ (search quotes depth 12) (search quotes depth 12) h))
-
-      -- where Λ is not zero the gap is tight in X, so X′ has it longer
-      first : (e : ℕ) → e < m → one e ≤ℤ pos 0
-      first e h =
-          turn (Λ e) (ψ (u e)) (ψ (v e))
-          (pull φ mono (kind e) (Λ e) (slack u v G X e) (slack u v G X′ e) (X (u e) -ℤ X′ (u e)) (X (v e) -ℤ X′ (v e)) (c .lawful e h)
-          (lawful-meets (kind e) (Λ′ e) (slack u v G X′ e) (c′ .lawful e h))
-          (ring (X (v e) ∷ X (u e) ∷ X′ (v e) ∷ X′ (u e) ∷ G e ∷ []) (search quotes depth 12) (search quotes depth 12) refl))
-
-      -- and the other way round
-      second : (e : ℕ) → e < m → pos 0 ≤ℤ two e
-      second e h =
-          pull φ mono (kind e) (Λ′ e) (slack u v G X′ e) (slack u v G X e) (X (v e) -ℤ X′ (v e)) (X (u e) -ℤ X′ (u e)) (c′ .lawful e h)
-          (lawful-meets (kind e) (Λ e) (slack u v G X e) (c .lawful e h))
-          (ring (X (v e) ∷ X (u e) ∷ X′ (v e) ∷ X′ (u e) ∷ G e ∷ []) (search quotes depth 12) (search quotes depth 12) refl)
-
-  -- no place moves by more than B if no want does
-  pub moved-bound : (B : ℤ) → ((i : ℕ) → i < n → (D i -ℤ D′ i) ≤ℤ B) → (i : ℕ) → i < n → (X i -ℤ X′ i) ≤ℤ B
-  moved-bound B wants i h =
-      not-above (X i -ℤ X′ i) (le-or-lt (X i -ℤ X′ i) B) (c .heavy i h) (wants i h)
-      (sum-nonneg-zero n (moved (over B) w D D′ X X′)
-      (λ i h. over-nonneg (le-or-lt (X i -ℤ X′ i) B) (c .heavy i h) (wants i h)) (moved-law (over B) (over-mono B)) i h)
-
-  -- no place is above the other if no want is
-  pub moved-down : ((i : ℕ) → i < n → D i ≤ℤ D′ i) → (i : ℕ) → i < n → X i ≤ℤ X′ i
-  moved-down wants i h = from-bound (X i) (X′ i) (moved-bound (pos 0) (λ i h. to-bound (D i) (D′ i) (wants i h)) i h)
-
-  -- the weighted squares of the moves are at most the products with the moves of the wants
-  pub moved-squares : apart n w X′ X ≤ℤ sum n (λ i. w i *ℤ ((X i -ℤ X′ i) *ℤ (D i -ℤ D′ i)))
-  moved-squares =
-      halve (sum n squares) (sum n products)
-      (le-trans
-      (le-of-eq
-      (sym (sum-cong n (moved (λ x. x) w D D′ X X′) (λ i. pos 2 *ℤ (squares i -ℤ products i))
-      (λ i _. ring (X i ∷ X′ i ∷ D i ∷ D′ i ∷ w i ∷ []) (search quotes depth 12) (search quotes depth 12) refl)
-      ∙ sum-* n (pos 2) (λ i. squares i -ℤ products i) ∙ ap (λ x. pos 2 *ℤ x) (sum-- n squares products))))
-      (moved-law (λ x. x) (λ a b h. h)))
-    where
-      squares : ℕ → ℤ
-      squares i = w i *ℤ ((X i -ℤ X′ i) *ℤ (X i -ℤ X′ i))
-
-      products : ℕ → ℤ
-      products i = w i *ℤ ((X i -ℤ X′ i) *ℤ (D i -ℤ D′ i))
-
-      halve : (a b : ℤ) → (pos 2 *ℤ (a -ℤ b)) ≤ℤ pos 0 → a ≤ℤ b
-      halve a b h =
-          let ρ : List ℤ = a ∷ b ∷ [] in
-          le-goal ρ (search quotes depth 12) (search quotes depth 12) (omega (arith, le-given ρ (search quotes depth 12) (search quotes depth 12) h))

@@ -6,9 +6,9 @@ use mathlib.Core.Bool.{true, cond}
 use mathlib.Core.List.{List, [], _∷_, _++_, List·Memᴰ}
 use lib.ListN.{length, getD, replicate}
 use lib.Dec.{eqb}
-use lib.IntN.{ℤ, pos, negℤ, _-ℤ_}
+use lib.IntN.{ℤ, pos, negℤ}
 use Rattle.exact.specs.declared.Fraction.{Fraction}
-use Rattle.exact.specs.Fraction.{_≃_, _⊖_, whole, LowestTerms}
+use Rattle.exact.specs.Fraction.{_≃_, whole, LowestTerms}
 use Rattle.ground.specs.declared.Label.{Label}
 use Rattle.ground.specs.declared.GapNumber.{GapNumber}
 use Rattle.ground.specs.Entries.{Each}
@@ -18,6 +18,7 @@ use Rattle.least_move.specs.Placement.{Placement, Feasible, LeastMove}
 use Rattle.least_move.specs.Multipliers.{Multipliers, Conditions}
 use Rattle.least_move.specs.Marks.{Step, forwards}
 use Rattle.least_move.specs.Ring.{IsRing}
+use Rattle.least_move.specs.Moved.{SameButWants, wantChange, placeChange}
 
 -- ---- the data, as the document writes it
 
@@ -367,18 +368,12 @@ pub record RightRefused (c : Refused) : Type 0 where
 pub record RightMoved (c : Moved) : Type 0 where
   pub before : RightPlaced (c .before)
   pub after : RightPlaced (c .after)
-  pub labels : sheetOf (c .after) .labels ≡ sheetOf (c .before) .labels
-  pub gaps : sheetOf (c .after) .gaps ≡ sheetOf (c .before) .gaps
-  pub weight : (i : Label) → i .0 < sheetOf (c .before) .labels →
-      sheetOf (c .after) .weight i ≡ sheetOf (c .before) .weight i
-  pub gap : (e : GapNumber) → e .0 < sheetOf (c .before) .gaps →
-      sheetOf (c .after) .gap e ≡ sheetOf (c .before) .gap e
+  pub same : SameButWants (sheetOf (c .before)) (sheetOf (c .after))
   pub one : c .label < sheetOf (c .before) .labels
   pub want : (i : Label) → i .0 < sheetOf (c .before) .labels →
-      sheetOf (c .after) .wanted i -ℤ sheetOf (c .before) .wanted i
-      ≡ cond (eqb (i .0) (c .label)) (c .want-by) (pos 0)
+      wantChange (sheetOf (c .before)) (sheetOf (c .after)) i ≡ cond (eqb (i .0) (c .label)) (c .want-by) (pos 0)
   pub place : (i : Label) → i .0 < sheetOf (c .before) .labels →
-      placement (c .after) i ⊖ placement (c .before) i ≃ c .places-by
+      placeChange (placement (c .before)) (placement (c .after)) i ≃ c .places-by
 
 abbrev pub RightCase : Case → Type 0
 RightCase (placed c) = RightPlaced c

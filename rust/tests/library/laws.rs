@@ -9,7 +9,7 @@ use crate::sheet::{Sheet, EXACTLY};
 use dirmoog::Answer;
 
 /// The places that are printed for a sheet, from any buffers, if it is accepted.
-fn places(random: &mut Random, sheet: &Sheet) -> Option<Vec<Fraction>> {
+pub fn places(random: &mut Random, sheet: &Sheet) -> Option<Vec<Fraction>> {
     let mut lent = Lent::arbitrary(random, sheet.labels(), sheet.gaps());
     let answer = lent.call(sheet);
     (answer == Answer::Placed).then(|| lent.records(sheet).places)
@@ -24,7 +24,7 @@ fn largest(one: &[Fraction], other: &[Fraction]) -> Fraction {
 }
 
 /// Other wants for the same weights and gaps: all of them, or one a little.
-fn other_wants(random: &mut Random, sheet: &Sheet) -> Sheet {
+pub fn other_wants(random: &mut Random, sheet: &Sheet) -> Sheet {
     let mut other = sheet.clone();
     if random.once_in(2) {
         other.wanted = labels_only(random, sheet.labels()).wanted;

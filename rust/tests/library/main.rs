@@ -13,6 +13,7 @@ mod records;
 mod refusals;
 mod sheet;
 mod solver;
+mod wide;
 
 // the tests
 mod bench;
@@ -21,6 +22,7 @@ mod exact_gaps;
 mod generated;
 mod hard;
 mod laws;
+mod moved_wants;
 mod opposite_gaps;
 mod raw_calls;
 mod rounding;

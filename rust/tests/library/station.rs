@@ -113,6 +113,17 @@ fn two_part_markers_are_listed() {
     fed(&[b"same,0,1,6\r\nSame,0,1,6\r\n"], "refused,13,2,1\r\n");
 }
 
+/// Document 02, Item 7: a revision of the markers above; no want goes down, and no place does.
+#[test]
+fn a_revision_is_listed() {
+    fed(
+        &[&file("two-part-markers-revised.csv")],
+        "place,0,10,1,10\r\nplace,1,250,1,250\r\nplace,2,560,1,560\r\nplace,3,800,1,800\r\n\
+         place,4,2635,2,1318\r\nplace,5,3115,2,1558\r\n\
+         slack,0,0,1\r\nslack,1,40,1\r\nslack,2,0,1\r\nslack,3,495,2\r\nslack,4,0,1\r\n",
+    );
+}
+
 /// Document 02, Item 5: the line and its bad field; a ring has neither.
 #[test]
 fn bad_fields_are_told() {

@@ -244,6 +244,17 @@ fn two_part_markers() {
     );
 }
 
+/// Document 02, Item 7: the same markers with one want moved up. The third marker stands apart from both.
+#[test]
+fn two_part_markers_revised() {
+    prints(
+        &file("two-part-markers-revised.csv"),
+        "place,0,10,1,10\r\nplace,1,250,1,250\r\nplace,2,560,1,560\r\nplace,3,800,1,800\r\n\
+         place,4,2635,2,1318\r\nplace,5,3115,2,1558\r\n\
+         slack,0,0,1\r\nslack,1,40,1\r\nslack,2,0,1\r\nslack,3,495,2\r\nslack,4,0,1\r\n",
+    );
+}
+
 /// What may stand behind a line, or be lacking.
 const ENDS: [&str; 3] = ["", "\n", "\r\n"];
 
