@@ -1,7 +1,7 @@
 -- What a call on each sheet of the bench comes to: the table lets all of them pass, by one test computed over the list,
 -- and then the promise and what is right of the case leave one answer.
 use Prim.Native.Nat.{ℕ, _<_}
-use mathlib.Core.Path.{_≡_, refl, sym, _∙_, ap, ap₂, subst}
+use mathlib.Core.Path.{_≡_, refl, sym, _∙_, ap, ap₂, subst, subst₂}
 use mathlib.Core.Bool.{Bool, true, false}
 use mathlib.Core.List.{List, _∷_, List·Memᴰ, Memᴰ·append-left, Memᴰ·append-right}
 use native.Mathlib.Omega.{arith}
@@ -20,6 +20,7 @@ use Rattle.least_move.specs.Sheet.{Sheet, Proper, kindOf, label}
 use Rattle.least_move.specs.Placement.{Feasible}
 use Rattle.least_move.specs.Multipliers.{Conditions}
 use Rattle.least_move.specs.Ring.{Ring}
+use Rattle.least_move.specs.Moved.{SameButWants}
 use Rattle.least_move.specs.Bench.{WrittenGap, Source, given, worked-out, Placed, Refused, Case, placed, refused, moved}
 use Rattle.least_move.specs.Bench.{P1, bench, placement, multipliers, written, RightPlaced, RightRefused, OnlyMultipliers, _to_of_}
 use Rattle.least_move.specs.Bench as bench
@@ -33,7 +34,7 @@ use Rattle.sheet_checks.specs.Refusals.{offenderBelow, tableOf, ragged, rows, t
 use Rattle.sheet_checks.proofs.Passed.{passed-proper}
 use Rattle.least_move.specs.Marks.{Step}
 use Rattle.layout.specs.Promise.{Promise, Accepted, RingGiven, stepsTold}
-use Rattle.layout.specs.BenchCalls.{Form, as-lists, as-records, recordOf, lend, LentWith, EachCall, MultipliersSo, PlacedSo, RefusedSo, AnsweredSo}
+use Rattle.layout.specs.BenchCalls.{Form, as-lists, as-records, recordOf, lend, LentAlike, LentWith, EachCall, MultipliersSo, PlacedSo, RefusedSo, AnsweredSo}
 use Rattle.layout.proofs.Facts.{judged, placed-accepted, places-known}
 
 -- ---- the table lets them pass
@@ -113,6 +114,18 @@ lend-same as-records s = λ j. record {
   weight = λ i. getD (s .weights) (i .0) (pos 0);
   gap = λ e. gapOf (List·getD-map recordOf (s .gaps) (e .0) (0 to 0 of pos 0) j);
 }
+
+pub lent-alike : LentAlike
+lent-alike f f′ s s′ labels weights gaps = subst₂ SameButWants (sym (lend-same f s)) (sym (lend-same f′ s′)) written-alike
+  where
+    written-alike : SameButWants (written s) (written s′)
+    written-alike =
+        record {
+          labels = labels;
+          gaps = ap length gaps;
+          weight = λ i h. ap (λ l. getD l (i .0) (pos 0)) weights;
+          gap = λ e h. ap (λ l. bench.gapOf (getD l (e .0) (0 to 0 of pos 0))) gaps;
+        }
 
 -- ---- what a call comes to
 

@@ -1,8 +1,8 @@
 -- What follows from the promise of a layout call, whichever way the gaps are lent:
 -- when a sheet is placed and when it is refused with 9.
-use Prim.Native.Nat.{ℕ, _<_}
+use Prim.Native.Nat.{ℕ, suc, _<_}
 use mathlib.Core.Path.{_≡_, refl, sym, _∙_, ap, subst}
-use mathlib.Core.Logic.{_↔_, ⊎-elim}
+use mathlib.Core.Logic.{_↔_, _≢_, ⊎-elim}
 use native.Mathlib.Omega.{arith}
 use Rattle.ground.specs.declared.Refusal.{Refusal}
 use Rattle.exact.specs.Fraction.{LowestTerms}
@@ -17,16 +17,26 @@ use Rattle.ground.specs.declared.Answer.the-variants.{Placed, Refused}
 use Rattle.sheet_checks.specs.Lent.{Read, Written, labelCount, sheetOf, placeOf}
 use Rattle.sheet_checks.specs.declared.Checked.{Checked}
 use Rattle.sheet_checks.specs.declared.Checked.the-variants as checked
-use Rattle.sheet_checks.specs.Refusals.{table}
+use Rattle.sheet_checks.specs.Refusals.{rows, table}
 use Rattle.layout.specs.Promise.{Promise, Judged, ByTable, Accepted, RingGiven}
 use Rattle.ground.specs.Answers.{numberOf, ringLengthOf, refusal}
 use Rattle.sheet_checks.proofs.Passed.{passed-proper}
+use Rattle.sheet_checks.proofs.Told.{Told, table-told}
 
 -- ---- the promise
 
 -- an answer is not both placed and refused
 pub not-both : {a : Answer} {q : Refusal} → a ≡ Placed → a ≡ Refused q → ⊥
 not-both e f = let z : _≡_ {A = ℕ} 0 1 = cc in omega arith
+
+-- no refusal of the table has the number 0
+numbered : (r : Read) (w : Written) → Told (λ q. q .number ≢ 0) (table r w)
+numbered r w =
+    table-told (λ q. q .number ≢ 0) _ _ _ _ (rows r) (above 0, above 1, above 2, above 3)
+    ((λ _ _. above 4), ((λ _ _. above 5), ((λ _ _. above 6), ((λ _ _. above 7), ((λ _ _. above 22), tt)))))
+  where
+    above : (n : ℕ) → suc n ≢ 0
+    above n e = omega (arith, e)
 
 module _ {r : Read} {w after : Written} {a : Answer} (promise : Promise r w a after) where
   -- a sheet that the table refuses has the table's number and place, and nothing is written
@@ -57,6 +67,17 @@ module _ {r : Read} {w after : Written} {a : Answer} (promise : Promise r w a af
 
   pub placed-least : a ≡ Placed → LeastMove (sheetOf r) (placeOf after)
   placed-least placed = placed-accepted placed .least
+
+  -- the number 0 is told of placed sheets alone
+  pub zero-placed : numberOf a ≡ 0 → a ≡ Placed
+  zero-placed none = go (table r w) (numbered r w) (promise .kept)
+    where
+      not-zero : _≡_ {A = ℕ} 9 0 → ⊥
+      not-zero z = omega arith
+
+      go : (v : Checked) → Told (λ q. q .number ≢ 0) v → ByTable v (sheetOf r) w a after → a ≡ Placed
+      go (checked.Refused q) told k = absurd (told (sym (ap numberOf (k .0)) ∙ none))
+      go checked.Pass told k = ⊎-elim (λ j. j .0) (λ j. absurd (not-zero (sym (ap numberOf (j .0)) ∙ none))) k
 
   -- placed exactly if a placement exists
   pub placed-exactly : table r w ≡ checked.Pass → (a ≡ Placed) ↔ ((p : Placement) × Feasible (sheetOf r) p)

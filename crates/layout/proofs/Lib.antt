@@ -1,5 +1,5 @@
 pub mod Facts
-pub mod Demand3
+pub mod TwoCalls
 pub mod Opposite
 pub mod Same
 pub mod BenchCalls

@@ -15,7 +15,8 @@ use Rattle.ground.specs.Answers.{refusal}
 use Rattle.ground.specs.Entries.{Each}
 use Rattle.least_move.specs.Bench.{WrittenGap, Source, given, worked-out, Placed, Refused, Case, placed, refused, moved, placement, multipliers}
 use Rattle.least_move.specs.Bench as bench
-use Rattle.sheet_checks.specs.Lent.{LentGaps, lists, records, Read, Written, labelCount, gapCount, placeOf, multiplierOf}
+use Rattle.least_move.specs.Moved.{SameButWants}
+use Rattle.sheet_checks.specs.Lent.{LentGaps, lists, records, Read, Written, labelCount, gapCount, sheetOf, placeOf, multiplierOf}
 use Rattle.sheet_checks.specs.Refusals.{roomOf, short}
 use Rattle.layout.specs.Promise.{Promise, stepsTold}
 
@@ -35,6 +36,13 @@ lendGaps as-records gs = records (map recordOf gs)
 -- a sheet of the bench as it is lent
 abbrev pub lend : Form → bench.Written → Read
 lend f s = record { wanted = s .wants; weight = s .weights; gaps = lendGaps f (s .gaps) }
+
+-- sheets lent with the same weights and the same gaps, in either form each, differ in wants only (`lent-alike` in
+-- proofs/BenchCalls)
+abbrev pub LentAlike : Type 0
+LentAlike =
+    (f f′ : Form) (s s′ : bench.Written) → length (s′ .wants) ≡ length (s .wants) → s′ .weights ≡ s .weights →
+    s′ .gaps ≡ s .gaps → SameButWants (sheetOf (lend f s)) (sheetOf (lend f′ s′))
 
 -- what is lent to write with it: its carried record, and buffers that have room and hold anything
 pub record LentWith (f : Form) (s : bench.Written) (w : Written) : Type 0 where

@@ -30,8 +30,8 @@ pub record BothNine (a a′ : Answer) : Type 0 where
   pub nine′ : a′ ≡ refusal 9 0 (ringLengthOf a′)
 
 -- "An exact gap shall give the same places, or 9, as the two opposite gaps it replaces, where both sheets pass all other
--- checks": so of any two calls that keep their promises (`opposite-same` in proofs/Opposite). The records and buffers lent
--- to write may differ in all they hold.
+-- checks": so of any two calls that keep their promises (`opposite-same` in proofs/Opposite). The carried records and the
+-- buffers lent to write may differ in all they hold.
 abbrev pub OppositeSame : Type 0
 OppositeSame =
     (r : Read) (w : Written) (a : Answer) (after : Written) (r′ : Read) (w′ : Written) (a′ : Answer) (after′ : Written)

@@ -1,4 +1,4 @@
--- The laws of moved wants (specs/Moved) hold of the least moves of any two sheets that differ in wants only.
+-- The laws of moved wants (specs/Moved) hold of the least moves of any two proper sheets that differ in wants only.
 -- Each is brought to a common scale (Bridge) and shown in whole numbers (Stationary); no multipliers are needed.
 use mathlib.Core.Path.{_≡_, refl, sym, _∙_, ap, subst}
 use mathlib.Core.List.{List, [], _∷_}
@@ -7,20 +7,21 @@ use native.Mathlib.Omega.{arith}
 use lib.IntN.{ℤ, pos, _+ℤ_, _-ℤ_, _*ℤ_}
 use lib.Signed.{_≤ℤ_, _<ℤ_}
 use Rattle.exact.specs.declared.Fraction.{Fraction}
-use Rattle.exact.specs.Fraction.{IsFraction, LowestTerms, _≃_, _≼_, _⊛_, whole, square}
-use Rattle.algebra.proofs.Whole.{le-of-lt, le-antisym, *ℤ-nonneg, *ℤ-above, *ℤ-le, square-nonneg}
-use Rattle.algebra.proofs.Ring.{ring, quotes, le-given, eq-given, le-goal, lt-goal}
+use Rattle.exact.specs.Fraction.{IsFraction, _⊖_, _≼_, _⊛_, whole, square}
+use Rattle.algebra.proofs.Whole.{le-of-eq, le-of-lt, le-antisym, *ℤ-nonneg, *ℤ-above, square-nonneg}
+use Rattle.algebra.proofs.Ring.{ring, quotes, le-given, le-goal, lt-goal}
 use Rattle.algebra.proofs.Sum.{sum-cong, sum-nonneg}
 use Rattle.exact.proofs.Divisor.{lowest-unique}
-use Rattle.exact.proofs.Fractions.{AtScale, CommonScale₂, common₂, rescale, rescale′, scale-self, ≼-scale, ⊖-≼-scale, ⊖-scale, ⊛-scale, whole-scale, square-scale, total-scale, total-above, whole-above, ⊖-above, square-above}
+use Rattle.exact.proofs.Fractions.{AtScale, CommonScale₂, common₂, rescale, rescale′, scale-self, ≼-scale, ⊖-≼-scale, ⊖-scale, ⊛-scale, whole-scale, square-scale, total-scale}
+use Rattle.exact.proofs.Fractions.{total-above, whole-above, ⊖-above, square-above}
 use Rattle.ground.specs.declared.Label.{Label}
 use Rattle.least_move.specs.Sheet.{Sheet, Gap, Proper, label, gapNumber}
 use Rattle.least_move.specs.Placement.{Placement, Feasible, LeastMove, cost}
 use Rattle.least_move.specs.States.{costZ}
-use Rattle.least_move.specs.Moved.{SameButWants, EachLabel, Within, LargestMove, NoWantDown, NoPlaceDown, placeChange, wantChange, squaredChange, matchedChange, MovedWants}
+use Rattle.least_move.specs.Moved.{EachLabel, SameButWants, NoWantDown, NoPlaceDown, wantChange, placeChange, sumOfSquares, sumOfProducts, LeastMoveLaws}
 use Rattle.least_move.proofs.Scaled.{slack, Meets-at, apart}
 use Rattle.least_move.proofs.Bridge.{lefts, rights, weights, kinds, distances, wants, Meets-all, Places-at, meets-back, cost-scale, cost-fraction, feasible-at}
-use Rattle.least_move.proofs.Stationary.{slope, Stationary, onTheWay, meets-on-the-way, cost-on-the-way, no-descent, moved-bound, moved-down, moved-squares}
+use Rattle.least_move.proofs.Stationary.{slope, Stationary, onTheWay, meets-on-the-way, cost-on-the-way, no-descent, moved-bound, moved-squares}
 
 -- ---- sheets that are the same but for their wants
 
@@ -79,7 +80,8 @@ module _ (s : Sheet) (proper : Proper s) (p : Placement) (l : LeastMove s p) {N 
               M-above (feasible-at s proper hN p (l .feasible) placed (e .0) h) (met (e .0) h)));
         }
       where
-        slack-near : (e : ℕ) → onTheWay M (slack (lefts s) (rights s) (distances N s) X e) (slack (lefts s) (rights s) (distances N s) Y e) ≡ slack (lefts s) (rights s) (distances (M *ℤ N) s) (λ i. onTheWay M (X i) (Y i)) e
+        slack-near : (e : ℕ) → onTheWay M (slack (lefts s) (rights s) (distances N s) X e) (slack (lefts s) (rights s) (distances N s) Y e)
+            ≡ slack (lefts s) (rights s) (distances (M *ℤ N) s) (λ i. onTheWay M (X i) (Y i)) e
         slack-near e =
             ring (M ∷ N ∷ s .gap (gapNumber e) .distance ∷ X (lefts s e) ∷ X (rights s e) ∷ Y (lefts s e) ∷ Y (rights s e) ∷ [])
             (search quotes depth 12) (search quotes depth 12) refl
@@ -146,6 +148,18 @@ stationary-same s t same N {D} {X} c =
         ∙ sum-cong (s .labels) (λ i. weights t i *ℤ ((X i -ℤ D i) *ℤ (Y i -ℤ X i))) (λ i. weights s i *ℤ ((X i -ℤ D i) *ℤ (Y i -ℤ X i)))
         (λ i h. ap (λ x. x *ℤ ((X i -ℤ D i) *ℤ (Y i -ℤ X i))) (same .weight (label i) h))
 
+-- ---- a difference of at most zero
+
+to-zero : {x y : ℤ} → x ≤ℤ y → whole x ⊖ whole y ≼ whole (pos 0)
+to-zero {x} {y} h =
+    let ρ : List ℤ = x ∷ y ∷ [] in
+    le-goal ρ (search quotes depth 12) (search quotes depth 12) (omega (arith, le-given ρ (search quotes depth 12) (search quotes depth 12) h))
+
+from-zero : (a b : Fraction) → a ⊖ b ≼ whole (pos 0) → a ≼ b
+from-zero a b h =
+    let ρ : List ℤ = a .num ∷ a .den ∷ b .num ∷ b .den ∷ [] in
+    le-goal ρ (search quotes depth 12) (search quotes depth 12) (omega (arith, le-given ρ (search quotes depth 12) (search quotes depth 12) h))
+
 -- ---- the laws
 
 -- one scale for two placements and for a distance
@@ -162,7 +176,9 @@ record Scales (s t : Sheet) (p q : Placement) (r : Fraction) : Type 0 where
 module _ (s t : Sheet) (p q : Placement) (proper : Proper s) (same : SameButWants s t) (least : LeastMove s p) (least′ : LeastMove t q) where
   common-scale : (r : Fraction) → IsFraction r → Scales s t p q r
   common-scale r hr =
-      let a : CommonScale₂ (s .labels) (t .labels) (λ i. p (label i)) (λ i. q (label i)) = common₂ (s .labels) (t .labels) (λ i. p (label i)) (λ i. q (label i)) (λ i h. least .feasible .fractions (label i) h) (λ i h. least′ .feasible .fractions (label i) h) in
+      let a : CommonScale₂ (s .labels) (t .labels) (λ i. p (label i)) (λ i. q (label i)) =
+      common₂ (s .labels) (t .labels) (λ i. p (label i)) (λ i. q (label i))
+      (λ i h. least .feasible .fractions (label i) h) (λ i h. least′ .feasible .fractions (label i) h) in
       record {
         N = a .N *ℤ r .den;
         above = *ℤ-above (a .above) hr;
@@ -184,37 +200,33 @@ module _ (s t : Sheet) (p q : Placement) (proper : Proper s) (same : SameButWant
   in-t : (i : Label) → i .0 < s .labels → i .0 < t .labels
   in-t i h = omega (arith, same .labels)
 
-  -- no place moves by more than a distance if no want does
-  within-distance : (r : Fraction) → IsFraction r → EachLabel s (λ i. Within r (whole (s .wanted i)) (whole (t .wanted i))) → EachLabel s (λ i. Within r (p i) (q i))
-  within-distance r hr near i h =
-      let z : Scales s t p q r = common-scale r hr in (
-        ⊖-≼-scale (z .above) (least .feasible .fractions i h) (least′ .feasible .fractions i (in-t i h)) hr (z .places (i .0) h) (z .places′ (i .0) (in-t i h)) (z .distance) .1
-            (moved-bound (first-at z) (second-at z) (z .R)
-            (λ j l. ⊖-≼-scale (z .above) (whole-above (s .wanted (label j))) (whole-above (t .wanted (label j))) hr (whole-scale (z .N) (s .wanted (label j))) (whole-scale (z .N) (t .wanted (label j))) (z .distance) .0 (near (label j) l .0))
-            (i .0) h),
-        ⊖-≼-scale (z .above) (least′ .feasible .fractions i (in-t i h)) (least .feasible .fractions i h) hr (z .places′ (i .0) (in-t i h)) (z .places (i .0) h) (z .distance) .1
-            (moved-bound (second-at z) (first-at z) (z .R)
-            (λ j l. ⊖-≼-scale (z .above) (whole-above (t .wanted (label j))) (whole-above (s .wanted (label j))) hr (whole-scale (z .N) (t .wanted (label j))) (whole-scale (z .N) (s .wanted (label j))) (z .distance) .0 (near (label j) l .1))
-            (i .0) h),
-      )
+  -- no place falls by more than a distance if no want does
+  not-further : (r : Fraction) → IsFraction r → EachLabel s (λ i. whole (s .wanted i) ⊖ whole (t .wanted i) ≼ r) → EachLabel s (λ i. p i ⊖ q i ≼ r)
+  not-further r hr near i h =
+      let z : Scales s t p q r = common-scale r hr in
+      ⊖-≼-scale (z .above) (least .feasible .fractions i h) (least′ .feasible .fractions i (in-t i h)) hr (z .places (i .0) h) (z .places′ (i .0) (in-t i h)) (z .distance)
+      .1 (moved-bound (first-at z) (second-at z) (z .R) (wants-at z) (i .0) h)
+    where
+      wants-at : (z : Scales s t p q r) (j : ℕ) → j < s .labels → (wants (z .N) s j -ℤ wants (z .N) t j) ≤ℤ z .R
+      wants-at z j l =
+          let one : ℤ = s .wanted (label j) in
+          let other : ℤ = t .wanted (label j) in
+          ⊖-≼-scale (z .above) (whole-above one) (whole-above other) hr (whole-scale (z .N) one) (whole-scale (z .N) other) (z .distance) .0 (near (label j) l)
 
   -- if no want goes down, no place goes down
   no-place-down : NoWantDown s t → NoPlaceDown s p q
-  no-place-down up i h =
-      let z : Scales s t p q (whole (pos 0)) = common-scale (whole (pos 0)) (whole-above (pos 0)) in
-      ≼-scale (z .above) (least .feasible .fractions i h) (least′ .feasible .fractions i (in-t i h)) (z .places (i .0) h) (z .places′ (i .0) (in-t i h)) .1
-      (moved-down (first-at z) (second-at z) (λ j l. *ℤ-le (le-of-lt (z .above)) (up (label j) l)) (i .0) h)
+  no-place-down up i h = from-zero (p i) (q i) (not-further (whole (pos 0)) (whole-above (pos 0)) (λ j l. to-zero (up j l)) i h)
 
   -- the sum of weight times squared change of place is at most the sum of weight times change of place times change of want
-  squares-matched : squaredChange s p q ≼ matchedChange s t p q
-  unfolding squaredChange matchedChange
-  squares-matched =
+  squares-at-most : sumOfSquares s p q ≼ sumOfProducts s t p q
+  unfolding sumOfSquares sumOfProducts
+  squares-at-most =
       ≼-scale (*ℤ-above (z .above) (z .above))
-      (total-above (s .labels) squared (λ i h. square-above (placeChange p q (label i)) (change-above i h)))
-      (total-above (s .labels) matched change-above)
-      (total-scale (s .labels) squared (λ i. weights s i *ℤ (change i *ℤ change i)) (λ i h. ⊛-scale (weights s i) (square-scale (change-scale i h))))
-      (total-scale (s .labels) matched (λ i. weights s i *ℤ (change i *ℤ (wants (z .N) t i -ℤ wants (z .N) s i)))
-      (λ i h. subst (λ (x : ℤ). AtScale (z .N *ℤ z .N) (weights s i *ℤ x) (matched i))
+      (total-above (s .labels) squares (λ i h. square-above (placeChange p q (label i)) (change-above i h)))
+      (total-above (s .labels) products change-above)
+      (total-scale (s .labels) squares (λ i. weights s i *ℤ (change i *ℤ change i)) (λ i h. ⊛-scale (weights s i) (square-scale (change-scale i h))))
+      (total-scale (s .labels) products (λ i. weights s i *ℤ (change i *ℤ (wants (z .N) t i -ℤ wants (z .N) s i)))
+      (λ i h. subst (λ (x : ℤ). AtScale (z .N *ℤ z .N) (weights s i *ℤ x) (products i))
       (ring (z .N ∷ change i ∷ t .wanted (label i) ∷ s .wanted (label i) ∷ []) (search quotes depth 12) (search quotes depth 12) refl)
       (⊛-scale (weights s i) (rescale (z .N) (⊛-scale (wantChange s t (label i)) (change-scale i h))))))
       .1 (moved-squares (second-at z) (first-at z))
@@ -222,11 +234,11 @@ module _ (s t : Sheet) (p q : Placement) (proper : Proper s) (same : SameButWant
       z : Scales s t p q (whole (pos 0))
       z = common-scale (whole (pos 0)) (whole-above (pos 0))
 
-      squared : ℕ → Fraction
-      squared i = s .weight (label i) ⊛ square (placeChange p q (label i))
+      squares : ℕ → Fraction
+      squares i = s .weight (label i) ⊛ square (placeChange p q (label i))
 
-      matched : ℕ → Fraction
-      matched i = s .weight (label i) ⊛ (wantChange s t (label i) ⊛ placeChange p q (label i))
+      products : ℕ → Fraction
+      products i = s .weight (label i) ⊛ (wantChange s t (label i) ⊛ placeChange p q (label i))
 
       change : ℕ → ℤ
       change i = z .X′ i -ℤ z .X i
@@ -237,44 +249,26 @@ module _ (s t : Sheet) (p q : Placement) (proper : Proper s) (same : SameButWant
       change-scale : (i : ℕ) → i < s .labels → AtScale (z .N) (change i) (placeChange p q (label i))
       change-scale i h = ⊖-scale (z .places′ i (in-t (label i) h)) (z .places i h)
 
--- ---- distance zero
-
--- equal wants differ by at most zero
-no-distance : {x y : ℤ} → x ≡ y → Within (whole (pos 0)) (whole x) (whole y)
-no-distance {x} {y} e =
-    let ρ : List ℤ = x ∷ y ∷ [] in (
-      le-goal ρ (search quotes depth 12) (search quotes depth 12) (omega (arith, eq-given ρ (search quotes depth 12) (search quotes depth 12) e)),
-      le-goal ρ (search quotes depth 12) (search quotes depth 12) (omega (arith, eq-given ρ (search quotes depth 12) (search quotes depth 12) e)),
-    )
-
--- fractions that differ by at most zero are equal
-cross-le : (a b c d : ℤ) → ((a *ℤ d -ℤ c *ℤ b) *ℤ pos 1) ≤ℤ (pos 0 *ℤ (b *ℤ d)) → (a *ℤ d) ≤ℤ (c *ℤ b)
-cross-le a b c d h =
-    let ρ : List ℤ = a ∷ b ∷ c ∷ d ∷ [] in
-    le-goal ρ (search quotes depth 12) (search quotes depth 12) (omega (arith, le-given ρ (search quotes depth 12) (search quotes depth 12) h))
-
-equal-of-within : (a b : Fraction) → Within (whole (pos 0)) a b → a ≃ b
-equal-of-within a b h = le-antisym (cross-le (a .num) (a .den) (b .num) (b .den) (h .0)) (cross-le (b .num) (b .den) (a .num) (a .den) (h .1))
-
 -- ---- what specs/ says of them
 
-module _ (s t : Sheet) (p q : Placement) (proper : Proper s) (same : SameButWants s t) (least : LeastMove s p) (least′ : LeastMove t q) where
-  -- the two laws of Item 7
-  pub moved-wants : MovedWants s t p q
-  moved-wants =
-      record {
-        rising = no-place-down s t p q proper same least least′;
-        falling = no-place-down t s q p (proper-same s t same proper) (same-sym s t same) least′ least;
-        squares = squares-matched s t p q proper same least least′;
-      }
+pub least-move-laws : LeastMoveLaws
+least-move-laws s t p q proper same least least′ =
+    record {
+      largest-move = λ r hr _ near i h. (
+        not-further s t p q proper same least least′ r hr (λ j l. near j l .0) i h,
+        not-further t s q p (proper-same s t same proper) (same-sym s t same) least′ least r hr (λ j l. near j (in-s j l) .1) i (omega (arith, same .labels)),
+      );
+      moved-wants = record { rising = up; falling = down; squares = squares-at-most s t p q proper same least least′ };
+      same-numbers = λ lowest lowest′ wants i h.
+          lowest-unique (q i) (p i) (lowest′ i h) (lowest i h)
+          (le-antisym (down (λ j l. le-of-eq (wants j (in-s j l))) i (omega (arith, same .labels))) (up (λ j l. le-of-eq (sym (wants j l))) i h));
+    }
+  where
+    in-s : (i : Label) → i .0 < t .labels → i .0 < s .labels
+    in-s i h = omega (arith, same .labels)
 
-  -- the largest-move law, of places in lowest terms
-  pub largest-move : EachLabel s (λ i. LowestTerms (p i)) → EachLabel t (λ i. LowestTerms (q i)) → LargestMove s t p q
-  largest-move lowest lowest′ =
-      record {
-        largest = λ r hr _ near. within-distance s t p q proper same least least′ r hr near;
-        same = λ wants i h.
-            lowest-unique (p i) (q i) (lowest i h) (lowest′ i (omega (arith, same .labels)))
-            (equal-of-within (p i) (q i)
-            (within-distance s t p q proper same least least′ (whole (pos 0)) (whole-above (pos 0)) (λ j l. no-distance (wants j l)) i h));
-      }
+    up : NoWantDown s t → NoPlaceDown s p q
+    up = no-place-down s t p q proper same least least′
+
+    down : NoWantDown t s → NoPlaceDown t q p
+    down = no-place-down t s q p (proper-same s t same proper) (same-sym s t same) least′ least

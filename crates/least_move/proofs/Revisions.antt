@@ -6,7 +6,7 @@ use Rattle.exact.specs.declared.Fraction.{Fraction}
 use Rattle.exact.specs.Fraction.{_≃_}
 use Rattle.exact.specs.Slack.{euclid, lowestOf}
 use Rattle.exact.specs.Total.{total}
-use Rattle.least_move.specs.Moved.{SameButWants, squaredChange, matchedChange}
+use Rattle.least_move.specs.Moved.{SameButWants, sumOfSquares, sumOfProducts}
 use Rattle.least_move.specs.Bench.{Placed, sheet, given, worked-out, minus, _over_, _to_of_, _to_exactly_, sheetOf, placement, P1, P3, P4, joined-mixed, RightPlaced}
 use Rattle.least_move.proofs.Bench.{Test, granted, _on_, each, equalℤ, placed?, same?}
 
@@ -14,22 +14,22 @@ use Rattle.least_move.proofs.Bench.{Test, granted, _on_, each, equalℤ
 pub record Revision : Type 0 where
   pub before : Placed
   pub after : Placed
-  pub squared : Fraction
-  pub matched : Fraction
+  pub squares : Fraction
+  pub products : Fraction
 
 -- both are right, the sheets differ in wants only, and the sums are these
 pub record RightRevision (c : Revision) : Type 0 where
   pub before : RightPlaced (c .before)
   pub after : RightPlaced (c .after)
   pub same : SameButWants (sheetOf (c .before)) (sheetOf (c .after))
-  pub squared : squaredChange (sheetOf (c .before)) (placement (c .before)) (placement (c .after)) ≃ c .squared
-  pub matched : matchedChange (sheetOf (c .before)) (sheetOf (c .after)) (placement (c .before)) (placement (c .after)) ≃ c .matched
+  pub squares : sumOfSquares (sheetOf (c .before)) (placement (c .before)) (placement (c .after)) ≃ c .squares
+  pub products : sumOfProducts (sheetOf (c .before)) (sheetOf (c .after)) (placement (c .before)) (placement (c .after)) ≃ c .products
 
 -- P3 to P4: both places go up by 1/2, and one want by 1
 abbrev half : Revision
-half = record { before = P3; after = P4; squared = pos 1 over 2; matched = pos 1 over 2 }
+half = record { before = P3; after = P4; squares = pos 1 over 2; products = pos 1 over 2 }
 
--- P1 with the second want at 20: the gap closes no more, and places go up by 5 and 15
+-- P1 with the second want at 20: the gap is no longer tight, and places go up by 5 and 15
 abbrev opened : Revision
 opened =
     record {
@@ -41,8 +41,8 @@ opened =
             multipliers = pos 0 over 1 ∷ [];
             source = worked-out;
           };
-      squared = pos 250 over 1;
-      matched = pos 300 over 1;
+      squares = pos 250 over 1;
+      products = pos 300 over 1;
     }
 
 -- weights 1, 2, 1, an exact gap and one of the other kind; a want goes up and one down, and so do places
@@ -59,8 +59,30 @@ both-ways =
             multipliers = pos 1 over 1 ∷ pos 7 over 1 ∷ [];
             source = worked-out;
           };
-      squared = pos 61 over 3;
-      matched = pos 110 over 3;
+      squares = pos 61 over 3;
+      products = pos 110 over 3;
+    }
+
+-- weights 2, 3 and a gap of 0: without the weights the sums would be 25 and 24, and the law false
+abbrev weights-count : Revision
+weights-count =
+    record {
+      before =
+          record {
+            sheet = sheet (pos 5 ∷ pos 0 ∷ []) (pos 2 ∷ pos 3 ∷ []) (0 to 1 of pos 0 ∷ []);
+            places = pos 2 over 1 ∷ pos 2 over 1 ∷ [];
+            multipliers = pos 12 over 1 ∷ [];
+            source = worked-out;
+          };
+      after =
+          record {
+            sheet = sheet (pos 5 ∷ pos 6 ∷ []) (pos 2 ∷ pos 3 ∷ []) (0 to 1 of pos 0 ∷ []);
+            places = pos 5 over 1 ∷ pos 6 over 1 ∷ [];
+            multipliers = pos 0 over 1 ∷ [];
+            source = worked-out;
+          };
+      squares = pos 66 over 1;
+      products = pos 72 over 1;
     }
 
 -- joined labels whose wants move by as much, the one up and the other down: they stay
@@ -81,16 +103,16 @@ joined-stay =
             multipliers = pos 16 over 1 ∷ [];
             source = given;
           };
-      squared = pos 0 over 1;
-      matched = pos 0 over 1;
+      squares = pos 0 over 1;
+      products = pos 0 over 1;
     }
 
 unfoldable pub revisions : List Revision
-revisions = half ∷ opened ∷ both-ways ∷ joined-stay ∷ []
+revisions = half ∷ opened ∷ both-ways ∷ weights-count ∷ joined-stay ∷ []
 
 abbrev revision? : (c : Revision) → Test (RightRevision c)
 revision? c =
-    granted (λ b a s x y. record { before = b; after = a; same = s; squared = x; matched = y })
+    granted (λ b a s x y. record { before = b; after = a; same = s; squares = x; products = y })
     on placed? (c .before)
     on placed? (c .after)
     on same? (c .before) (c .after)
@@ -98,5 +120,5 @@ revision? c =
     on equalℤ _ _
 
 pub revisions-right : (c : Revision) → List·Memᴰ c revisions → RightRevision c
-unfolding revisions total lowestOf euclid squaredChange matchedChange
+unfolding revisions total lowestOf euclid sumOfSquares sumOfProducts
 revisions-right = each revision? revisions .shows tt

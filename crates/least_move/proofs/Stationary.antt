@@ -49,7 +49,9 @@ meets-on-the-way exactly M s t above h k =
 meets-on-the-way ignored M s t above h k = tt
 
 -- the cost there
-pub cost-on-the-way : (n : ℕ) (w D X Y : ℕ → ℤ) (M : ℤ) → costZ n w (λ i. M *ℤ D i) (λ i. onTheWay M (X i) (Y i)) ≡ costZ n w (λ i. M *ℤ D i) (λ i. M *ℤ X i) +ℤ (pos 2 *ℤ M *ℤ slope n w D X Y +ℤ apart n w X Y)
+pub cost-on-the-way : (n : ℕ) (w D X Y : ℕ → ℤ) (M : ℤ)
+    → costZ n w (λ i. M *ℤ D i) (λ i. onTheWay M (X i) (Y i))
+    ≡ costZ n w (λ i. M *ℤ D i) (λ i. M *ℤ X i) +ℤ (pos 2 *ℤ M *ℤ slope n w D X Y +ℤ apart n w X Y)
 cost-on-the-way n w D X Y M =
     sum-cong n (λ i. w i *ℤ ((onTheWay M (X i) (Y i) -ℤ M *ℤ D i) *ℤ (onTheWay M (X i) (Y i) -ℤ M *ℤ D i))) (λ i. cost i +ℤ (pos 2 *ℤ M *ℤ falls i +ℤ squares i))
     (λ i h. ring (M ∷ X i ∷ Y i ∷ D i ∷ w i ∷ []) (search quotes depth 12) (search quotes depth 12) refl)
@@ -136,20 +138,42 @@ between-meets exactly s t y b h k =
     (λ p. le-antisym (le-trans (p .1) (le-of-eq k)) (le-trans (le-of-eq (sym h)) (p .0))) b
 between-meets ignored s t y b h k = tt
 
--- a slack s that falls by f towards t, and t that rises by f towards s, and the same with f below zero
-falls-between : (s t f : ℤ) → pos 0 ≤ℤ f → f ≤ℤ (s -ℤ t) → Between s t (s -ℤ f) × Between s t (t +ℤ f)
-falls-between s t f h k =
-    let ρ : List ℤ = s ∷ t ∷ f ∷ [] in (
-      inl (le-goal ρ (search quotes depth 12) (search quotes depth 12) (omega (arith, le-given ρ (search quotes depth 12) (search quotes depth 12) k)), le-goal ρ (search quotes depth 12) (search quotes depth 12) (omega (arith, le-given ρ (search quotes depth 12) (search quotes depth 12) h))),
-      inl (le-goal ρ (search quotes depth 12) (search quotes depth 12) (omega (arith, le-given ρ (search quotes depth 12) (search quotes depth 12) h)), le-goal ρ (search quotes depth 12) (search quotes depth 12) (omega (arith, le-given ρ (search quotes depth 12) (search quotes depth 12) k))),
-    )
+-- a slack s that gives way by f towards t, and t that gives way by f towards s, f being above zero or below
+up-between : (s t f : ℤ) → pos 0 ≤ℤ f → f ≤ℤ (s -ℤ t) → Between s t (s -ℤ f) × Between s t (t +ℤ f)
+up-between s t f h k = (inl (one, two), inl (three, four))
+  where
+    ρ : List ℤ
+    ρ = s ∷ t ∷ f ∷ []
 
-rises-between : (s t f : ℤ) → f ≤ℤ pos 0 → (s -ℤ t) ≤ℤ f → Between s t (s -ℤ f) × Between s t (t +ℤ f)
-rises-between s t f h k =
-    let ρ : List ℤ = s ∷ t ∷ f ∷ [] in (
-      inr (le-goal ρ (search quotes depth 12) (search quotes depth 12) (omega (arith, le-given ρ (search quotes depth 12) (search quotes depth 12) h)), le-goal ρ (search quotes depth 12) (search quotes depth 12) (omega (arith, le-given ρ (search quotes depth 12) (search quotes depth 12) k))),
-      inr (le-goal ρ (search quotes depth 12) (search quotes depth 12) (omega (arith, le-given ρ (search quotes depth 12) (search quotes depth 12) k)), le-goal ρ (search quotes depth 12) (search quotes depth 12) (omega (arith, le-given ρ (search quotes depth 12) (search quotes depth 12) h))),
-    )
+    one : t ≤ℤ (s -ℤ f)
+    one = le-goal ρ (search quotes depth 12) (search quotes depth 12) (omega (arith, le-given ρ (search quotes depth 12) (search quotes depth 12) k))
+
+    two : (s -ℤ f) ≤ℤ s
+    two = le-goal ρ (search quotes depth 12) (search quotes depth 12) (omega (arith, le-given ρ (search quotes depth 12) (search quotes depth 12) h))
+
+    three : t ≤ℤ (t +ℤ f)
+    three = le-goal ρ (search quotes depth 12) (search quotes depth 12) (omega (arith, le-given ρ (search quotes depth 12) (search quotes depth 12) h))
+
+    four : (t +ℤ f) ≤ℤ s
+    four = le-goal ρ (search quotes depth 12) (search quotes depth 12) (omega (arith, le-given ρ (search quotes depth 12) (search quotes depth 12) k))
+
+down-between : (s t f : ℤ) → f ≤ℤ pos 0 → (s -ℤ t) ≤ℤ f → Between s t (s -ℤ f) × Between s t (t +ℤ f)
+down-between s t f h k = (inr (one, two), inr (three, four))
+  where
+    ρ : List ℤ
+    ρ = s ∷ t ∷ f ∷ []
+
+    one : s ≤ℤ (s -ℤ f)
+    one = le-goal ρ (search quotes depth 12) (search quotes depth 12) (omega (arith, le-given ρ (search quotes depth 12) (search quotes depth 12) h))
+
+    two : (s -ℤ f) ≤ℤ t
+    two = le-goal ρ (search quotes depth 12) (search quotes depth 12) (omega (arith, le-given ρ (search quotes depth 12) (search quotes depth 12) k))
+
+    three : s ≤ℤ (t +ℤ f)
+    three = le-goal ρ (search quotes depth 12) (search quotes depth 12) (omega (arith, le-given ρ (search quotes depth 12) (search quotes depth 12) k))
+
+    four : (t +ℤ f) ≤ℤ t
+    four = le-goal ρ (search quotes depth 12) (search quotes depth 12) (omega (arith, le-given ρ (search quotes depth 12) (search quotes depth 12) h))
 
 -- so where c and d differ as the slacks do
 steps-between : (φ : ℤ → ℤ) → Gentle φ → (s t c d : ℤ) → s -ℤ t ≡ c -ℤ d → Between s t (s -ℤ (φ c -ℤ φ d)) × Between s t (t +ℤ (φ c -ℤ φ d))
@@ -159,13 +183,15 @@ steps-between φ gentle s t c d e = ⊎-elim one (λ h. other (le-of-lt h)) (le-
     ρ = s ∷ t ∷ c ∷ d ∷ φ c ∷ φ d ∷ []
 
     one : d ≤ℤ c → Between s t (s -ℤ (φ c -ℤ φ d)) × Between s t (t +ℤ (φ c -ℤ φ d))
-    one h = falls-between s t (φ c -ℤ φ d) (sub-nonneg (gentle .rises d c h)) (le-trans (gentle .no-faster d c h) (le-of-eq (sym e)))
+    one h = up-between s t (φ c -ℤ φ d) (sub-nonneg (gentle .rises d c h)) (le-trans (gentle .no-faster d c h) (le-of-eq (sym e)))
 
     other : c ≤ℤ d → Between s t (s -ℤ (φ c -ℤ φ d)) × Between s t (t +ℤ (φ c -ℤ φ d))
     other h =
-        rises-between s t (φ c -ℤ φ d)
+        down-between s t (φ c -ℤ φ d)
         (le-goal ρ (search quotes depth 12) (search quotes depth 12) (omega (arith, le-given ρ (search quotes depth 12) (search quotes depth 12) (gentle .rises c d h))))
-        (le-goal ρ (search quotes depth 12) (search quotes depth 12) (omega (arith, eq-given ρ (search quotes depth 12) (search quotes depth 12) e, le-given ρ (search quotes depth 12) (search quotes depth 12) (gentle .no-faster c d h))))
+        (le-goal ρ (search quotes depth 12) (search quotes depth 12)
+        (omega
+        (arith, eq-given ρ (search quotes depth 12) (search quotes depth 12) e, le-given ρ (search quotes depth 12) (search quotes depth 12) (gentle .no-faster c d h))))
 
 -- ---- moved wants
 
@@ -184,9 +210,6 @@ over-nonneg (inr h) k l = le-of-lt (term-above h k l)
 not-above : {d w B : ℤ} (a : ℤ) (s : (a ≤ℤ B) ⊎ (B <ℤ a)) → pos 0 <ℤ w → d ≤ℤ B → excess s *ℤ (w *ℤ (a -ℤ d)) ≡ pos 0 → a ≤ℤ B
 not-above a (inl h) k l e = h
 not-above a (inr h) k l e = absurd (not-zero (term-above h k l) e)
-
-to-bound : (a b : ℤ) → a ≤ℤ b → (a -ℤ b) ≤ℤ pos 0
-to-bound a b h = let ρ : List ℤ = a ∷ b ∷ [] in le-goal ρ (search quotes depth 12) (search quotes depth 12) (omega (arith, le-given ρ (search quotes depth 12) (search quotes depth 12) h))
 
 from-bound : (a b : ℤ) → (a -ℤ b) ≤ℤ pos 0 → a ≤ℤ b
 from-bound a b h = let ρ : List ℤ = a ∷ b ∷ [] in le-goal ρ (search quotes depth 12) (search quotes depth 12) (omega (arith, le-given ρ (search quotes depth 12) (search quotes depth 12) h))
@@ -234,7 +257,13 @@ module _ {n m : ℕ} {u v : ℕ → ℕ} {w G : ℕ → ℤ} {kind : ℕ → Kin
       below : (s a b : ℤ) → a +ℤ b ≡ pos 0 -ℤ s → pos 0 ≤ℤ a → pos 0 ≤ℤ b → s ≤ℤ pos 0
       below s a b e h k =
           let ρ : List ℤ = s ∷ a ∷ b ∷ [] in
-          le-goal ρ (search quotes depth 12) (search quotes depth 12) (omega (arith, eq-given ρ (search quotes depth 12) (search quotes depth 12) e, le-given ρ (search quotes depth 12) (search quotes depth 12) h, le-given ρ (search quotes depth 12) (search quotes depth 12) k))
+          le-goal ρ (search quotes depth 12) (search quotes depth 12)
+          (omega (
+            arith,
+            eq-given ρ (search quotes depth 12) (search quotes depth 12) e,
+            le-given ρ (search quotes depth 12) (search quotes depth 12) h,
+            le-given ρ (search quotes depth 12) (search quotes depth 12) k,
+          ))
 
   -- no place moves by more than B if no want does
   pub moved-bound : (B : ℤ) → ((i : ℕ) → i < n → (D i -ℤ D′ i) ≤ℤ B) → (i : ℕ) → i < n → (X i -ℤ X′ i) ≤ℤ B
@@ -242,10 +271,6 @@ module _ {n m : ℕ} {u v : ℕ → ℕ} {w G : ℕ → ℤ} {kind : ℕ → Kin
       not-above (X i -ℤ X′ i) (le-or-lt (X i -ℤ X′ i) B) (c .heavy i h) (wants i h)
       (sum-nonneg-zero n (moved (over B) w D D′ X X′)
       (λ i h. over-nonneg (le-or-lt (X i -ℤ X′ i) B) (c .heavy i h) (wants i h)) (moved-law (over B) (over-gentle B)) i h)
-
-  -- no place is above the other if no want is
-  pub moved-down : ((i : ℕ) → i < n → D i ≤ℤ D′ i) → (i : ℕ) → i < n → X i ≤ℤ X′ i
-  moved-down wants i h = from-bound (X i) (X′ i) (moved-bound (pos 0) (λ i h. to-bound (D i) (D′ i) (wants i h)) i h)
 
   -- the weighted squares of the moves are at most the products with the moves of the wants
   pub moved-squares : apart n w X′ X ≤ℤ sum n (λ i. w i *ℤ ((X i -ℤ X′ i) *ℤ (D i -ℤ D′ i)))

@@ -1,5 +1,5 @@
--- Wrong places for revisions of P1, weights 1 and gap 0 to 1 of 10: each pair meets the gap and moves no place further than the
--- want that moves furthest, or moves places where no want moves, and breaks the laws for moved wants (specs/Moved).
+-- Wrong places for revisions of P1, weights 1 and gap 0 to 1 of 10: each pair meets the gap, and moves no place further than the
+-- want that moves furthest, but for the last; and it breaks one of the laws for moved wants (specs/Moved).
 -- Neither law rules out what the other does. Nothing cites them.
 use mathlib.Core.List.{[], _∷_}
 use lib.IntN.{ℤ, pos}
@@ -9,7 +9,7 @@ use Rattle.exact.specs.Fraction.{_≼_, whole}
 use Rattle.exact.specs.Total.{total}
 use Rattle.least_move.specs.Sheet.{Sheet, label}
 use Rattle.least_move.specs.Placement.{Placement}
-use Rattle.least_move.specs.Moved.{NoWantDown, NoPlaceDown, squaredChange, matchedChange, MovedWants}
+use Rattle.least_move.specs.Moved.{NoWantDown, NoPlaceDown, sumOfSquares, sumOfProducts, MovedWants}
 use Rattle.least_move.specs.Bench.{sheet, written, minus, _to_of_}
 use Rattle.least_move.proofs.Bench.{labels, at-mostℤ}
 
@@ -28,9 +28,9 @@ want-up = labels (λ i. at-mostℤ _ _) .shows tt
 pub goes-down : MovedWants (wanting (pos 0)) (wanting (pos 20)) (places (minus 5) (pos 5)) (places (minus 6) (pos 15)) → ⊥
 goes-down laws = laws .rising want-up (label 0) (omega arith) .le
 
-goes-down-squares : squaredChange (wanting (pos 0)) (places (minus 5) (pos 5)) (places (minus 6) (pos 15))
-    ≼ matchedChange (wanting (pos 0)) (wanting (pos 20)) (places (minus 5) (pos 5)) (places (minus 6) (pos 15))
-unfolding squaredChange matchedChange total
+goes-down-squares : sumOfSquares (wanting (pos 0)) (places (minus 5) (pos 5)) (places (minus 6) (pos 15))
+    ≼ sumOfProducts (wanting (pos 0)) (wanting (pos 20)) (places (minus 5) (pos 5)) (places (minus 6) (pos 15))
+unfolding sumOfSquares sumOfProducts total
 goes-down-squares = record { le = tt }
 
 -- turned round: the want goes from 20 to 0, and the first place up
@@ -39,13 +39,13 @@ goes-up laws = laws .falling want-up (label 0) (omega arith) .le
 
 -- -5, 5 to 15, 25: the first goes along with the second, 800 of 400. No place goes down
 pub goes-along : MovedWants (wanting (pos 0)) (wanting (pos 20)) (places (minus 5) (pos 5)) (places (pos 15) (pos 25)) → ⊥
-unfolding squaredChange matchedChange total
+unfolding sumOfSquares sumOfProducts total
 goes-along laws = laws .squares .le
 
 goes-along-up : NoPlaceDown (wanting (pos 0)) (places (minus 5) (pos 5)) (places (pos 15) (pos 25))
 goes-along-up = labels (λ i. at-mostℤ _ _) .shows tt
 
--- one terminal along, with no want moved: 200 of 0, and by the first law too, turned round
-pub one-terminal-along : MovedWants (wanting (pos 0)) (wanting (pos 0)) (places (minus 5) (pos 5)) (places (pos 5) (pos 15)) → ⊥
-unfolding squaredChange matchedChange total
-one-terminal-along laws = laws .squares .le
+-- both moved by 10 where no want moves: 200 of 0
+pub moves-unasked : MovedWants (wanting (pos 0)) (wanting (pos 0)) (places (minus 5) (pos 5)) (places (pos 5) (pos 15)) → ⊥
+unfolding sumOfSquares sumOfProducts total
+moves-unasked laws = laws .squares .le

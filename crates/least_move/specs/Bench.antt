@@ -9,7 +9,6 @@ use lib.Dec.{eqb}
 use lib.IntN.{ℤ, pos, negℤ}
 use Rattle.exact.specs.declared.Fraction.{Fraction}
 use Rattle.exact.specs.Fraction.{_≃_, whole, LowestTerms}
-use Rattle.ground.specs.declared.Label.{Label}
 use Rattle.ground.specs.declared.GapNumber.{GapNumber}
 use Rattle.ground.specs.Entries.{Each}
 use Rattle.ground.specs.Kinds.{atLeastByte, exactlyByte}
@@ -18,7 +17,7 @@ use Rattle.least_move.specs.Placement.{Placement, Feasible, LeastMove}
 use Rattle.least_move.specs.Multipliers.{Multipliers, Conditions}
 use Rattle.least_move.specs.Marks.{Step, forwards}
 use Rattle.least_move.specs.Ring.{IsRing}
-use Rattle.least_move.specs.Moved.{SameButWants, wantChange, placeChange}
+use Rattle.least_move.specs.Moved.{EachLabel, SameButWants, wantChange, placeChange}
 
 -- ---- the data, as the document writes it
 
@@ -370,10 +369,10 @@ pub record RightMoved (c : Moved) : Type 0 where
   pub after : RightPlaced (c .after)
   pub same : SameButWants (sheetOf (c .before)) (sheetOf (c .after))
   pub one : c .label < sheetOf (c .before) .labels
-  pub want : (i : Label) → i .0 < sheetOf (c .before) .labels →
-      wantChange (sheetOf (c .before)) (sheetOf (c .after)) i ≡ cond (eqb (i .0) (c .label)) (c .want-by) (pos 0)
-  pub place : (i : Label) → i .0 < sheetOf (c .before) .labels →
-      placeChange (placement (c .before)) (placement (c .after)) i ≃ c .places-by
+  pub want : EachLabel (sheetOf (c .before)) (λ i.
+      wantChange (sheetOf (c .before)) (sheetOf (c .after)) i ≡ cond (eqb (i .0) (c .label)) (c .want-by) (pos 0))
+  pub place : EachLabel (sheetOf (c .before)) (λ i.
+      placeChange (placement (c .before)) (placement (c .after)) i ≃ c .places-by)
 
 abbrev pub RightCase : Case → Type 0
 RightCase (placed c) = RightPlaced c

@@ -8,7 +8,7 @@ use two_calls::Both;
 use two_calls::lay_out_both;
 ghost use Rattle.sheet_checks.specs.Lent.{roomLent, sheetLent};
 ghost use Rattle.layout.specs.Promise.{Promise};
-ghost use Rattle.two_calls.specs.TwoCalls.{BothPromised};
+ghost use Rattle.layout.specs.TwoCalls.{BothPromised};
 ghost use Rattle.record_arrays.specs.Arrays.{arrayLent};
 
 // Records of an array that a byte counts.

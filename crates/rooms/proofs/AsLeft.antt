@@ -9,7 +9,7 @@ use Rattle.ground.specs.declared.Answer.{Answer}
 use Rattle.ground.specs.Entries.{Filled}
 use Rattle.sheet_checks.specs.Lent.{Read, Written}
 use Rattle.layout.specs.Promise.{Promise}
-use Rattle.two_calls.specs.TwoCalls.{BothPromised}
+use Rattle.layout.specs.TwoCalls.{BothPromised}
 use Rattle.rooms.specs.declared.Laid.{Laid}
 use Rattle.rooms.specs.Rooms.{laidOf, written}
 

@@ -14,7 +14,7 @@ ghost use mathlib.Core.Path.{_≡_};
 ghost use lib.ListN.{take};
 ghost use Rattle.sheet_checks.specs.Lent.{sheetLent};
 ghost use Rattle.layout.specs.Promise.{Promise};
-ghost use Rattle.two_calls.specs.TwoCalls.{BothPromised};
+ghost use Rattle.layout.specs.TwoCalls.{BothPromised};
 ghost use Rattle.record_arrays.specs.Arrays.{arrayLent};
 ghost use Rattle.rooms.specs.Rooms.{filled, written, laidOf};
 ghost use Rattle.ground.specs.Entries.{Filled};

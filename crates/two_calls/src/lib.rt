@@ -1,10 +1,10 @@
-// Makes a layout call of each form, and promises demand 3 of what the two leave.
+// Makes a layout call of each form, and promises demand 3 and the two laws for moved wants of what they leave.
 use ground::Answer;
 use ground::GapRecord;
 use layout::lists::lay_out;
 use records::lay_out_records;
 ghost use Rattle.sheet_checks.specs.Lent.{recordsLent, roomLent, sheetLent};
-ghost use Rattle.two_calls.specs.TwoCalls.{BothPromised};
+ghost use Rattle.layout.specs.TwoCalls.{BothPromised};
 
 // The answers of the two calls.
 pub struct Both {

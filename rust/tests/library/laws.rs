@@ -8,11 +8,18 @@ use crate::random::Random;
 use crate::sheet::{Sheet, EXACTLY};
 use dirmoog::Answer;
 
-/// The places that are printed for a sheet, from any buffers, if it is accepted.
-pub fn places(random: &mut Random, sheet: &Sheet) -> Option<Vec<Fraction>> {
-    let mut lent = Lent::arbitrary(random, sheet.labels(), sheet.gaps());
+/// The places that are printed for a sheet, from these buffers, if it is accepted.
+pub fn places_in(lent: &mut Lent, sheet: &Sheet) -> Option<Vec<Fraction>> {
     let answer = lent.call(sheet);
     (answer == Answer::Placed).then(|| lent.records(sheet).places)
+}
+
+/// The same from any buffers.
+fn places(random: &mut Random, sheet: &Sheet) -> Option<Vec<Fraction>> {
+    places_in(
+        &mut Lent::arbitrary(random, sheet.labels(), sheet.gaps()),
+        sheet,
+    )
 }
 
 /// The largest difference, without sign.

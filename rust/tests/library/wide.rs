@@ -64,14 +64,26 @@ fn wide_numbers() {
             assert!(wide(a) + wide(b) == wide(a + b));
             let product = wide(a) * wide(large) * wide(b) * wide(large);
             assert_eq!(product.is_below_zero(), a * b < 0);
-            assert_eq!(
-                product + wide(-a * b) * wide(large) * wide(large) == wide(0),
-                true
-            );
+            assert!(product + wide(-a * b) * wide(large) * wide(large) == wide(0));
         }
     }
     // 2^127 - 1 and 1 more, squared
     let square = (wide(large) + wide(1)) * (wide(large) + wide(1));
     assert!(square == wide(large) * wide(large) + wide(2) * wide(large) + wide(1));
     assert!(square != wide(0) && !square.is_below_zero());
+}
+
+/// As wide as a sum over 48 labels gets: 2^2400, and 1 less, with either sign.
+#[test]
+fn widest_numbers() {
+    let wide = Wide::from;
+    let widest = (0..48).fold(wide(1), |product, _| product * wide(1 << 50));
+    let less = widest + wide(-1);
+    for (one, sign) in [(wide(1), 1), (wide(-1), -1)] {
+        assert_eq!((widest * one).is_below_zero(), sign < 0);
+        assert_eq!((less * one).is_below_zero(), sign < 0);
+        assert!(less * one + one == widest * one);
+        assert!(widest * one + widest * wide(-sign) == wide(0));
+    }
+    assert!(widest != wide(0) && less != wide(0) && widest != less);
 }

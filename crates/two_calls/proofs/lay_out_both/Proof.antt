@@ -1,6 +1,5 @@
 -- `two_calls::lay_out_both` meets its contract: a walk of its MIR, written by tools/walks. All that it knows of `lay_out` and
--- `lay_out_records` is that each meets its contract; of the two promises demand 3 is the law `demand-3`, and `moved-wants` is
--- that of moved wants.
+-- `lay_out_records` is that each meets its contract; what two such promises come to is the law `any-two-calls`.
 -- Every parameter goes to one of the two calls for good, at its own lifetime, share and name.
 -- Assumes nothing.
 use mathlib.Core.Path.{refl}
@@ -42,7 +41,7 @@ use denote.Triple.Walked.{says, Stays, walkOf, Walks, ends-at, walked, walk-meet
 use Rattle.ground.specs.declared.Answer.{Answer}
 use Rattle.sheet_checks.specs.Lent.{Written, lists, records}
 use Rattle.layout.specs.Promise.{Promise}
-use Rattle.layout.proofs.Demand3.{demand-3, moved-wants}
+use Rattle.layout.proofs.TwoCalls.{any-two-calls}
 use Rattle.ground.proofs.GapRecord as G
 use Rattle.ground.proofs.Answer as N
 use Rattle.ground.proofs.Answer.Laws as N′
@@ -458,7 +457,7 @@ module _ {M : Type 1} (𝓤 : URA M) (H : Heap 𝓤) (A : Atoms 𝓤) (W : Given
       pick ! (λ zs₁. split ! $ move ! (1 ∷ []) $ heard ! (Said₁ r₁ zs₁) (λ e₁.
       suffices ! _ (ends-at 𝓤 H A lay-out-both.ended stayed (lay-out-both.clauses 𝓤 H A mem run) W ((κs, qs, tt, a, vals), tt) (mach v₁ v₂)
       (both r₁ r₂) (in-a-row zs₁ zs₂) (all-fit κs (lay-out-both.ended .signature .params) (lay-out-both.ended .kept) a (in-a-row zs₁ zs₂))) $
-      says ! (record { first = e₁; second = e₂; demand-3 = demand-3 e₁ e₂; moved-wants = moved-wants e₁ e₂ }) $
+      says ! (any-two-calls _ _ _ _ _ _ _ _ e₁ e₂) $
       -- [the first call's last values; the second's; the second call's tokens; the first's]
       move ! (3 ∷ []) $ split ! $ move ! (1 ∷ []) $ split ! $ move ! (1 ∷ []) $ split ! $ move ! (1 ∷ []) $ split ! $ move ! (1 ∷ []) $ split ! $
       move ! (1 ∷ []) $ split ! $ move ! (1 ∷ []) $ split ! $ move ! (1 ∷ []) $ split ! $ move ! (1 ∷ []) $ split ! $ move ! (1 ∷ []) $ split ! $

@@ -244,7 +244,7 @@ fn two_part_markers() {
     );
 }
 
-/// Document 02, Item 7: the same markers with one want moved up. The third marker stands apart from both.
+/// Document 02, Item 7: the same markers with one want moved up. Now the second stands apart from the first.
 #[test]
 fn two_part_markers_revised() {
     prints(
