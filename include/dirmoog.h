@@ -102,10 +102,10 @@ extern "C" {
  *
  * Of two placed sheets that differ in wants only, with the same weights and gaps, whatever the two calls were
  * lent to write: no place moves further than the want that moves furthest, and where no want moves every
- * place is the same numerator over the same denominator; if no want goes down no place goes down, and if none
- * goes up none goes up; and the sum over all labels of weight x (change of place)^2 is at most that of
- * weight x change of place x change of want. That is so of the fractions, not of whole units. Multipliers and
- * marks may differ even where no want moves.
+ * place is the same numerator over the same denominator; if no want goes down no place goes down, and if no
+ * want goes up no place goes up; and the sum over all labels of weight x (change of place)^2 is at most that
+ * of weight x change of place x change of want. This is promised of the fractions, not of whole units.
+ * Multipliers and marks may differ even where no want moves.
  */
 uint64_t dirmoog_layout(const int64_t *wanted, size_t wanted_len,
                         const int64_t *weight, size_t weight_len,

@@ -197,9 +197,9 @@ pub struct Room<'a> {
 ///
 /// Of two placed sheets that differ in wants only, whatever rooms they are lent: no place moves further
 /// than the want that moves furthest, and where no want moves every place is the same numerator over
-/// the same denominator. If no want goes down no place goes down, and if none goes up none goes up. The
-/// sum over all labels of weight times squared change of place is at most that of weight times change
-/// of place times change of want. That is so of the fractions, not of whole units.
+/// the same denominator. If no want goes down no place goes down, and if no want goes up no place goes
+/// up. The sum over all labels of weight times squared change of place is at most that of weight times
+/// change of place times change of want. This is promised of the fractions, not of whole units.
 ///
 /// ```
 /// use dirmoog::{lay_out, Answer, Room, Sheet, AT_LEAST};

@@ -5,8 +5,8 @@ use Rattle.least_move.specs.Moved.{SameButWants, LargestMove, SameNumbers, Move
 use Rattle.sheet_checks.specs.Lent.{Read, Written, sheetOf, placeOf}
 use Rattle.dirmoog_c.specs.Exported.{Laid}
 
--- where both return 0, on sheets that differ in wants only, demand 3 and the two laws for moved wants hold of the places, whatever
--- they were lent to write (`two-laid` in proofs/TwoLaid)
+-- where both return 0, on sheets that differ in wants only, the largest move, the same numbers and the two laws for moved
+-- wants hold of the places, whatever they were lent to write (`two-laid` in proofs/TwoLaid)
 abbrev pub TwoLaid : Type 0
 TwoLaid =
     (r : Read) (w : Written) (out : List ℕ) (after : Written) (out-after : List ℕ) →

@@ -37,8 +37,8 @@ lendGaps as-records gs = records (map recordOf gs)
 abbrev pub lend : Form → bench.Written → Read
 lend f s = record { wanted = s .wants; weight = s .weights; gaps = lendGaps f (s .gaps) }
 
--- sheets lent with the same weights and the same gaps, in either form each, differ in wants only (`lent-alike` in
--- proofs/BenchCalls)
+-- sheets lent with as many wants, the same weights and the same gaps, in either form each, differ in wants only
+-- (`lent-alike` in proofs/BenchCalls)
 abbrev pub LentAlike : Type 0
 LentAlike =
     (f f′ : Form) (s s′ : bench.Written) → length (s′ .wants) ≡ length (s .wants) → s′ .weights ≡ s .weights →

@@ -199,7 +199,7 @@ steps-between φ gentle s t c d e = ⊎-elim one (λ h. other (le-of-lt h)) (le-
 abbrev pub moved : (φ : ℤ → ℤ) (w D D′ X X′ : ℕ → ℤ) → ℕ → ℤ
 moved φ w D D′ X X′ i = φ (X i -ℤ X′ i) *ℤ (w i *ℤ ((X i -ℤ X′ i) -ℤ (D i -ℤ D′ i)))
 
--- a label that moves by more than B where its want does not: its term of the law is above zero
+-- a label that falls by more than B where its want does not: its term of the law is above zero
 term-above : {a d w B : ℤ} → B <ℤ a → pos 0 <ℤ w → d ≤ℤ B → pos 0 <ℤ ((a -ℤ B) *ℤ (w *ℤ (a -ℤ d)))
 term-above h k l = *ℤ-above (sub-above h) (*ℤ-above k (sub-above (lt-of-le-of-lt l h)))
 
@@ -265,7 +265,7 @@ module _ {n m : ℕ} {u v : ℕ → ℕ} {w G : ℕ → ℤ} {kind : ℕ → Kin
             le-given ρ (search quotes depth 12) (search quotes depth 12) k,
           ))
 
-  -- no place moves by more than B if no want does
+  -- no place falls by more than B if no want does
   pub moved-bound : (B : ℤ) → ((i : ℕ) → i < n → (D i -ℤ D′ i) ≤ℤ B) → (i : ℕ) → i < n → (X i -ℤ X′ i) ≤ℤ B
   moved-bound B wants i h =
       not-above (X i -ℤ X′ i) (le-or-lt (X i -ℤ X′ i) B) (c .heavy i h) (wants i h)

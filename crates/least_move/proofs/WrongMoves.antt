@@ -1,5 +1,5 @@
 -- Wrong places for revisions of P1, weights 1 and gap 0 to 1 of 10: each pair meets the gap, and moves no place further than the
--- want that moves furthest, but for the last; and it breaks one of the laws for moved wants (specs/Moved).
+-- want that moves furthest, but for the last; and it breaks a law for moved wants (specs/Moved).
 -- Neither law rules out what the other does. Nothing cites them.
 use mathlib.Core.List.{[], _∷_}
 use lib.IntN.{ℤ, pos}
@@ -44,6 +44,10 @@ goes-along laws = laws .squares .le
 
 goes-along-up : NoPlaceDown (wanting (pos 0)) (places (minus 5) (pos 5)) (places (pos 15) (pos 25))
 goes-along-up = labels (λ i. at-mostℤ _ _) .shows tt
+
+-- and turned round the first law asks nothing of it, since a want goes down
+goes-along-back : ¬ (NoWantDown (wanting (pos 20)) (wanting (pos 0)))
+goes-along-back down = down (label 1) (omega arith) .le
 
 -- both moved by 10 where no want moves: 200 of 0
 pub moves-unasked : MovedWants (wanting (pos 0)) (wanting (pos 0)) (places (minus 5) (pos 5)) (places (pos 5) (pos 15)) → ⊥

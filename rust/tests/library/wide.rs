@@ -73,7 +73,7 @@ fn wide_numbers() {
     assert!(square != wide(0) && !square.is_below_zero());
 }
 
-/// As wide as a sum over 48 labels gets: 2^2400, and 1 less, with either sign.
+/// As wide as the denominator of a sum over 48 labels can get: 2^2400, and 1 less, with either sign.
 #[test]
 fn widest_numbers() {
     let wide = Wide::from;
