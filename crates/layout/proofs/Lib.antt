@@ -4,6 +4,7 @@ pub mod Opposite
 pub mod Same
 pub mod BenchCalls
 pub mod WrongParts
+pub mod WrongPairs
 pub mod WrongKinds
 pub mod Laws
 pub mod Judging

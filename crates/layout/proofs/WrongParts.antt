@@ -67,7 +67,7 @@ P2-lent as-lists = record { carried = refl; room = refl }
 P2-lent as-records = record { carried = refl; room = refl }
 
 -- fractions that are different in their numerators
-apart : {p q r : Fraction} → natAbs (q .num) ≢ natAbs (r .num) → p ≡ q → p ≡ r → ⊥
+pub apart : {p q r : Fraction} → natAbs (q .num) ≢ natAbs (r .num) → p ≡ q → p ≡ r → ⊥
 apart differ e f = differ (ap (λ (q : Fraction). natAbs (q .num)) (sym e ∙ f))
 
 -- ---- the wrong parts

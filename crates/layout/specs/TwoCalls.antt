@@ -8,7 +8,8 @@ use Rattle.layout.specs.Promise.{Promise}
 use Rattle.layout.specs.Demand3.{Demand3}
 
 -- each call keeps its promise; where their sheets "have the same weights and gaps" demand 3 holds of the two, and where both
--- are accepted too, "with any carried records", the two laws for moved wants
+-- are accepted too, "with any carried records", the two laws for moved wants. (The laws alone would let a layout stay as it
+-- was; the promises do not, nor a second call that refuses or writes nothing: proofs/WrongPairs.)
 pub record BothPromised (r : Read) (w : Written) (a : Answer) (after : Written) (r′ : Read) (w′ : Written) (a′ : Answer) (after′ : Written) : Type 0 where
   pub first : Promise r w a after
   pub second : Promise r′ w′ a′ after′
