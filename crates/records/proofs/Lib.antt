@@ -1,2 +1,4 @@
+pub mod Frame
 pub mod Kept
+pub mod Parameters
 pub mod Rows
