@@ -21,42 +21,46 @@ use denote.Laws.{Ises, Spells, Tells, Is, Tellss, Lawful, Lawfuls}
 use denote.Slice.{ShrSlice, MutSlice, slice-vals, shr-slice-tells, mut-slice-tells, shr-slice-lawful, mut-slice-lawful}
 use Rattle.ground.proofs.GapRecord as G
 
--- ---- of a tuple with an entry for each parameter, the first n and the others
-abbrev least : ℕ → ℕ → ℕ
-least zero m = zero
-least (suc n) zero = zero
-least (suc n) (suc m) = suc (least n m)
+-- ---- a tuple with an entry for each parameter, such as of lifetimes, of what is passed or of last values
+abbrev pub Row : List (Type 0) → Type 0
+Row [] = Unit {0}
+Row (X ∷ Xs) = X × Row Xs
 
-abbrev less : ℕ → ℕ → ℕ
-less zero m = m
-less (suc n) zero = zero
-less (suc n) (suc m) = less n m
+abbrev pub Then : List (Type 0) → Type 0 → Type 0
+Then [] Y = Y
+Then (X ∷ Xs) Y = X × Then Xs Y
 
--- it may be of lifetimes (`Lfts n`), of shares (`Shares n`)
-abbrev pub Tuple : Type 0 → ℕ → Type 0
-Tuple X zero = Unit {0}
-Tuple X (suc n) = X × Tuple X n
+-- the first n entries
+abbrev pub first : (n : ℕ) (Xs : List (Type 0)) → Row Xs → Row (take n Xs)
+first zero Xs t = tt
+first (suc n) [] t = tt
+first (suc n) (X ∷ Xs) t = (t .0, first n Xs (t .1))
 
-abbrev pub first : (X : Type 0) (n m : ℕ) → Tuple X m → Tuple X (least n m)
-first X zero m t = tt
-first X (suc n) zero t = tt
-first X (suc n) (suc m) t = (t .0, first X n m (t .1))
+-- the others
+abbrev pub other : (n : ℕ) (Xs : List (Type 0)) → Row Xs → Row (past n Xs)
+other zero Xs t = t
+other (suc n) [] t = tt
+other (suc n) (X ∷ Xs) t = other n Xs (t .1)
 
-abbrev pub other : (X : Type 0) (n m : ℕ) → Tuple X m → Tuple X (less n m)
-other X zero m t = t
-other X (suc n) zero t = tt
-other X (suc n) (suc m) t = other X n m (t .1)
+-- the first n entries, and the others changed
+abbrev pub others : (n : ℕ) (Xs : List (Type 0)) {Y : Type 0} → (Row (past n Xs) → Y) → Row Xs → Then (take n Xs) Y
+others zero Xs f t = f t
+others (suc n) [] f t = f tt
+others (suc n) (X ∷ Xs) f t = (t .0, others n Xs f (t .1))
 
--- or of what is passed
-abbrev pub first-args : (n : ℕ) (Ts : List RattleType) → Denots Ts → Denots (take n Ts)
-first-args zero Ts a = tt
-first-args (suc n) [] a = tt
-first-args (suc n) (T ∷ Ts) a = (a .0, first-args n Ts (a .1))
+-- all the entries, and then more
+abbrev pub then : (Xs : List (Type 0)) {Y : Type 0} → Row Xs → Y → Then Xs Y
+then [] t y = y
+then (X ∷ Xs) t y = (t .0, then Xs (t .1) y)
 
-abbrev pub other-args : (n : ℕ) (Ts : List RattleType) → Denots Ts → Denots (past n Ts)
-other-args zero Ts a = a
-other-args (suc n) [] a = tt
-other-args (suc n) (T ∷ Ts) a = other-args n Ts (a .1)
+-- what is passed, and the last values
+abbrev pub denots : List RattleType → List (Type 0)
+denots [] = []
+denots (T ∷ Ts) = T .Denot ∷ denots Ts
+
+abbrev pub fins : {n : ℕ} (κs : Lfts n) (ss : List (Slot n)) (ks : Kepts ss) → Denots (typesAt ss κs) → List (Type 0)
+fins κs [] ks a = []
+fins κs (s ∷ ss) ks a = Last (s .row κs .exit (ks .0)) (a .0) ∷ fins κs ss (ks .1) (a .1)
 
 -- ---- what is had of each parameter, as a list
 abbrev pub all-of : List Fml → Fml
@@ -78,15 +82,6 @@ module _ {n : ℕ} (κs : Lfts n) where
   abbrev pub left-of : (ss : List (Slot n)) (ks : Kepts ss) (a : Denots (typesAt ss κs)) → Fins κs ss ks a → List Fml
   left-of [] ks a ws = []
   left-of (s ∷ ss) ks a ws = left (s .row κs .exit (ks .0)) (a .0) (ws .0) ∷ left-of ss (ks .1) (a .1) (ws .1)
-
-  -- the last values of some parameters, and then of others
-  abbrev pub Then : (ss : List (Slot n)) (ks : Kepts ss) → Denots (typesAt ss κs) → Type 0 → Type 0
-  Then [] ks a Y = Y
-  Then (s ∷ ss) ks a Y = Last (s .row κs .exit (ks .0)) (a .0) × Then ss (ks .1) (a .1) Y
-
-  abbrev pub then : {Y : Type 0} (ss : List (Slot n)) (ks : Kepts ss) (a : Denots (typesAt ss κs)) → Fins κs ss ks a → Y → Then ss ks a Y
-  then [] ks a ws ys = ys
-  then (s ∷ ss) ks a ws ys = (ws .0, then ss (ks .1) (a .1) (ws .1) ys)
 
 module _ {M : Type 1} (𝓤 : URA M) (H : Heap 𝓤) (A : Atoms 𝓤) where
   parted : (n : ℕ) (Ps : List Fml) → ent 𝓤 (sem 𝓤 H A (all-of Ps)) (sep 𝓤 (sem 𝓤 H A (all-of (take n Ps))) (sem 𝓤 H A (all-of (past n Ps))))
@@ -144,6 +139,20 @@ module _ {M : Type 1} (𝓤 : URA M) (H : Heap 𝓤) (A : Atoms 𝓤) (W : Given
   pub lawful : (j : ℕ) (ls : List Lent) (κs : Lfts (length ls)) → Lawfuls 𝓤 H A (slices j ls κs)
   lawful j [] κs = tt
   lawful j (l ∷ ls) κs = (slice-lawful j (κs .0) l, lawful (suc j) ls (κs .1))
+
+-- ---- parameters and then others
+abbrev pub spells-app : (Ts Us : List RattleType) → Spells Ts → Spells Us → Spells (Ts ++ Us)
+spells-app [] Us sp sq = sq
+spells-app (T ∷ Ts) Us sp sq = (sp .0, spells-app Ts Us (sp .1) sq)
+
+pub tells-app : (Ts Us : List RattleType) (sp : Spells Ts) (sq : Spells Us) → Tellss Ts (Ises Ts) sp → Tellss Us (Ises Us) sq
+    → Tellss (Ts ++ Us) (Ises (Ts ++ Us)) (spells-app Ts Us sp sq)
+tells-app [] Us sp sq t u = u
+tells-app (T ∷ Ts) Us sp sq t u = (t .0, tells-app Ts Us (sp .1) sq (t .1) u)
+
+pub lawfuls-app : {M : Type 1} (𝓤 : URA M) (H : Heap 𝓤) (A : Atoms 𝓤) (Ts Us : List RattleType) → Lawfuls 𝓤 H A Ts → Lawfuls 𝓤 H A Us → Lawfuls 𝓤 H A (Ts ++ Us)
+lawfuls-app 𝓤 H A [] Us t u = u
+lawfuls-app 𝓤 H A (T ∷ Ts) Us t u = (t .0, lawfuls-app 𝓤 H A Ts Us (t .1) u)
 
 -- ---- the parameters of a layout call, the gaps as lists or as records
 abbrev pub buffers : List Lent
