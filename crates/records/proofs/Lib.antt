@@ -1,4 +1,5 @@
 pub mod Frame
+pub mod HandedOn
 pub mod Kept
 pub mod Parameters
 pub mod Rows

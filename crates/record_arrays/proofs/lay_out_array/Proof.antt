@@ -57,7 +57,7 @@ use Rattle.records.proofs.Frame.{Blocks, block, these, allocates, takes, lends-
 use Rattle.records.proofs.Frame.{reads as reads-local}
 use Rattle.records.proofs.Parameters.{first, other, others, denots, fins, all-of, tokens, owned-by, left-of, parts, joins, Lent as Param, reads, slices, spelt, told, lawful}
 use Rattle.records.proofs.Parameters.{spells-app, tells-app, lawfuls-app, buffers}
-use Rattle.two_calls.proofs.HandedOn.{handed-on, all-fit, all-go}
+use Rattle.records.proofs.HandedOn.{handed-on, all-fit, all-go}
 use Rattle.records.proofs.lay_out_records as lay-out-records
 use Rattle.records.proofs.lay_out_records.Symbol as lay-out-records-def
 use Rattle.records.proofs.lay_out_records.Symbol.{name as #records·lay-out-records}

@@ -56,7 +56,7 @@ use Rattle.records.proofs.Frame.{Blocks, block, these, allocates, takes, lends-
 use Rattle.records.proofs.Frame.{reads as reads-local}
 use Rattle.records.proofs.Parameters.{first, other, others, denots, fins, all-of, tokens, owned-by, left-of, parts, joins, Lent as Param, reads, slices, spelt, told, lawful}
 use Rattle.records.proofs.Parameters.{spells-app, tells-app, lawfuls-app, buffers, to-lists}
-use Rattle.two_calls.proofs.HandedOn.{handed-on, all-fit, all-go}
+use Rattle.records.proofs.HandedOn.{handed-on, all-fit, all-go}
 use Rattle.two_calls.proofs.lay_out_both as lay-out-both
 use Rattle.two_calls.proofs.lay_out_both.Symbol as lay-out-both-def
 use Rattle.two_calls.proofs.lay_out_both.Symbol.{name as #two-calls·lay-out-both}
