@@ -214,7 +214,8 @@ module _ {M : Type 1} (𝓤 : URA M) (H : Heap 𝓤) (A : Atoms 𝓤) (W : Given
         []) ∵ enter ! C Λ code.function (flat (params κs) vals) _ $
         allocates ! (code.function .locals) (λ bs. takes ! fit $
         -- [the locals; what is had at entry]
-        assigns ! (of-opd ! (load ! (from ! (stop !)) (reads-local ! 3 refl))) (from ! (stop !)) (stores ! 12 tt (array-typed R (LL.lawful T.the-type T′.the-laws 𝓤 H A W .typed) 256 gaps _ is-gaps .0)) $
+        assigns ! (of-opd ! (load ! (from ! (stop !)) (reads-local ! 3 refl))) (from ! (stop !))
+        (stores ! 12 tt (array-typed R (LL.lawful T.the-type T′.the-laws 𝓤 H A W .typed) 256 gaps _ is-gaps .0)) $
         assigns ! (un ! (load ! (from ! (stop !)) (reads-local ! 4 refl)) wide) (from ! (stop !)) (stores ! 13 tt (tt, wide)) $
         assigns ! (addr ! (from ! (stop !))) (from ! (stop !)) (stores ! 14 tt (tt, tt)) $
         assigns ! (agg ! (and-then ! (load ! (from ! (stop !)) (reads-local ! 14 refl)) (and-then ! (load ! (from ! (stop !)) (reads-local ! 13 refl)) (no-more !))))
@@ -230,7 +231,8 @@ module _ {M : Type 1} (𝓤 : URA M) (H : Heap 𝓤) (A : Atoms 𝓤) (W : Given
         await ! tt $ pick ! (λ γ. split ! $
         -- [the loan; what was kept of the array; the locals; the loan's token; what is had at entry]
         move ! (0 ∷ 3 ∷ 4 ∷ []) $ use3 W (raw (Callee 𝓤 H A mem run .pre (to (at-array bs) α γ))) (asks (at-array bs) α γ) $
-        calls-at ! fm (Callee 𝓤 H A mem run) known (to (at-array bs) α γ) (copies ! 2 (1 ∷ 2 ∷ 15 ∷ 17 ∷ 19 ∷ 21 ∷ 23 ∷ 25 ∷ 27 ∷ 29 ∷ []) refl
+        calls-at ! fm (Callee 𝓤 H A mem run) known (to (at-array bs) α γ)
+        (copies ! 2 (1 ∷ 2 ∷ 15 ∷ 17 ∷ 19 ∷ 21 ∷ 23 ∷ 25 ∷ 27 ∷ 29 ∷ []) refl
         (ap (λ (k : ℕ). these (flat (typesAt (lay-out-records.signature .params) (κs′ (at-array bs) α)) (vals-at (at-array bs) α γ k))) (sym all-lent))) (λ v.
         use1 W (later (some (λ (r : Answer). (‵ (all-of (tokens 10 (κs′ (at-array bs) α) (qs′ (at-array bs) α))) ⊛ ‵ (N.the-row .own r (v ∷ []))) ⊛ raw (Told (at-array bs) α γ r))))
         (id⊢ 𝓤 _) $ await ! tt $ pick ! (λ r. split ! $ split ! $

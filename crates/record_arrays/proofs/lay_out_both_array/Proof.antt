@@ -216,7 +216,8 @@ module _ {M : Type 1} (𝓤 : URA M) (H : Heap 𝓤) (A : Atoms 𝓤) (W : Given
         []) ∵ enter ! C Λ code.function (flat (params κs) vals) _ $
         allocates ! (code.function .locals) (λ bs. takes ! fit $
         -- [the locals; what is had at entry]
-        assigns ! (of-opd ! (load ! (from ! (stop !)) (reads-local ! 16 refl))) (from ! (stop !)) (stores ! 25 tt (array-typed R (LL.lawful T.the-type T′.the-laws 𝓤 H A W .typed) 256 gaps _ is-gaps .0)) $
+        assigns ! (of-opd ! (load ! (from ! (stop !)) (reads-local ! 16 refl))) (from ! (stop !))
+        (stores ! 25 tt (array-typed R (LL.lawful T.the-type T′.the-laws 𝓤 H A W .typed) 256 gaps _ is-gaps .0)) $
         lends-on ! 7 26 27 refl refl (tt, tt, tt, tt) refl $ lends-on ! 8 28 29 refl refl (tt, tt, tt, tt) refl $ lends-on ! 9 30 31 refl refl (tt, tt, tt, tt) refl $
         lends-on ! 10 32 33 refl refl (tt, tt, tt, tt) refl $ lends-on ! 11 34 35 refl refl (tt, tt, tt, tt) refl $ lends-on ! 12 36 37 refl refl (tt, tt, tt, tt) refl $
         lends-on ! 13 38 39 refl refl (tt, tt, tt, tt) refl $
@@ -235,7 +236,8 @@ module _ {M : Type 1} (𝓤 : URA M) (H : Heap 𝓤) (A : Atoms 𝓤) (W : Given
         await ! tt $ pick ! (λ γ. split ! $
         -- [the loan; what was kept of the array; the locals; the loan's token; what is had at entry]
         move ! (0 ∷ 3 ∷ 4 ∷ []) $ use3 W (raw (Callee 𝓤 H A mem run .pre (to (at-array bs) α γ))) (asks (at-array bs) α γ) $
-        calls-at ! fm (Callee 𝓤 H A mem run) known (to (at-array bs) α γ) (copies ! 2 (1 ∷ 2 ∷ 3 ∷ 4 ∷ 5 ∷ 6 ∷ 27 ∷ 29 ∷ 31 ∷ 33 ∷ 35 ∷ 37 ∷ 39 ∷ 14 ∷ 15 ∷ 42 ∷ 44 ∷ 46 ∷ 48 ∷ 50 ∷ 52 ∷ 54 ∷ 56 ∷ []) refl
+        calls-at ! fm (Callee 𝓤 H A mem run) known (to (at-array bs) α γ)
+        (copies ! 2 (1 ∷ 2 ∷ 3 ∷ 4 ∷ 5 ∷ 6 ∷ 27 ∷ 29 ∷ 31 ∷ 33 ∷ 35 ∷ 37 ∷ 39 ∷ 14 ∷ 15 ∷ 42 ∷ 44 ∷ 46 ∷ 48 ∷ 50 ∷ 52 ∷ 54 ∷ 56 ∷ []) refl
         (ap (λ (k : ℕ). these (flat (typesAt (lay-out-both.signature .params) (κs′ (at-array bs) α)) (vals-at (at-array bs) α γ k))) (sym all-lent))) (λ v.
         use1 W (later (some (λ (r : Both). (‵ (all-of (tokens 23 (κs′ (at-array bs) α) (qs′ (at-array bs) α))) ⊛ ‵ (B.the-row .own r (v ∷ []))) ⊛ raw (Told (at-array bs) α γ r))))
         (id⊢ 𝓤 _) $ await ! tt $ pick ! (λ r. split ! $ split ! $
