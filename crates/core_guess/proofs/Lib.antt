@@ -1,4 +1,4 @@
-pub mod Doubles
+pub mod WholeDoubles
 pub mod Joining
 pub mod Wishing
 pub mod WrongGuesses

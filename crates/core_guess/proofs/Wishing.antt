@@ -1,23 +1,18 @@
 -- Bytes of a proposal that are copied, wished and let go.
-use Prim.Native.Nat.{ℕ, _+_, _-_, _≤_, _<_}
+use Prim.Native.Nat.{ℕ, zero, suc, _+_, _≤_, _<_}
 use native.Mathlib.Omega.{arith}
 use native.Mathlib.Numerals.{add-one}
 use mathlib.Core.Path.{_≡_, refl, ap, _∙_}
 use mathlib.Core.Logic.{_⊎_, inl, inr, ⊎-elim}
 use mathlib.Core.Bool.{true, false, false≢true, true≢false}
-use mathlib.Core.List.{List}
+use mathlib.Core.List.{List, [], _∷_}
 use lib.Dec.{ltb}
-use lib.IntN.{ℤ}
-use lib.ListN.{length, set, take, drop, List·getD-append}
-use lib.Seq.{set-out, getD-set-same, getD-set-other, getD-take, getD-drop, getD-append-add, length-take-le}
+use lib.ListN.{length, set}
+use lib.Seq.{set-out, getD-set-same, getD-set-other}
 use borrow.Author.Tests.{eq-eqb, ne-eqb, ltb-true, ltb-false}
 use Rattle.least_move.proofs.Forest.{by-mark}
-use Rattle.ground.specs.Entries.{nat, over}
-use Rattle.ground.specs.Limits.{labelsMost}
-use Rattle.ground.specs.declared.Label.{Label}
-use Rattle.core_guess.specs.declared.mend.Weak.{Weak}
-use Rattle.core_guess.specs.declared.mend.Weak.the-variants.{Under}
-use Rattle.core_guess.specs.Guess.{Extended, Regrown, Taken, UnderLabel, Wished, anyMarked}
+use Rattle.ground.specs.Entries.{nat}
+use Rattle.core_guess.specs.Guess.{Extended, Unwished, Wished, anyMarked}
 use Rattle.core_guess.proofs.Joining.{by-index}
 
 -- ---- the search for a mark: one gap more
@@ -58,39 +53,38 @@ wished-one {gaps} {wish} e v within small =
       beyond = λ j h. getD-set-other wish e j v 0 (omega arith);
     }
 
--- ---- copies
+-- ---- no gap is wished: one gap more
 
-pub taken : (gaps : ℕ) (from wish : List ℕ) → gaps ≤ length from → Taken gaps from wish (over gaps from wish)
-taken gaps from wish fits =
+pub unwished-start : {wish : List ℕ} → Unwished 0 wish wish
+unwished-start = record { each = λ e h. absurd (omega arith); beyond = λ e h. refl }
+
+-- a stored zero needs no room: it is what an index past the end reads
+pub zero-stored : (xs : List ℕ) (i : ℕ) → nat (set xs i 0) i ≡ 0
+zero-stored [] i = refl
+zero-stored (x ∷ xs) zero = refl
+zero-stored (x ∷ xs) (suc i) = zero-stored xs i
+
+pub unwished-more : {e : ℕ} {wish₀ wish : List ℕ} → Unwished e wish₀ wish → Unwished (e + 1) wish₀ (set wish e 0)
+unwished-more {e} {wish₀} {wish} u =
     record {
-      each = λ e h. List·getD-append (take gaps from) (drop gaps wish) 0 e (omega (arith, front)) ∙ getD-take gaps from e 0 h;
-      beyond = λ e h.
-          let split : e ≡ length (take gaps from) + (e - gaps) = omega (arith, front) in
-          let back : gaps + (e - gaps) ≡ e = omega arith in
-          ap (nat (over gaps from wish)) split
-          ∙ (getD-append-add (take gaps from) (drop gaps wish) (e - gaps) 0 ∙ (getD-drop gaps wish (e - gaps) 0 ∙ ap (nat wish) back));
+      each = λ j h. by-index j e (λ (p : j ≡ e). rw p (zero-stored wish e)) (λ d. getD-set-other wish e j 0 0 d ∙ u .each j (omega arith));
+      beyond = λ j h. getD-set-other wish e j 0 0 (omega arith) ∙ u .beyond j (omega arith);
     }
-  where
-    front : length (take gaps from) ≡ gaps
-    front = length-take-le gaps from fits
+
+-- all gaps are passed
+pub unwished-end : {gaps e : ℕ} {wish₀ wish : List ℕ} → e ≤ gaps → gaps ≤ e → Unwished e wish₀ wish → Unwished gaps wish₀ wish
+unwished-end {gaps} {e} l g u = let p : e ≡ gaps = omega arith in rw p at u
 
 -- ---- an extension
 
-pub regrown : {gaps : ℕ} {mark wish₀ wish₁ wish₂ wish : List ℕ} → Taken gaps mark wish₀ wish₁ → Wished gaps wish₁ wish₂ → Wished gaps wish₂ wish → Regrown gaps mark wish
-regrown t x y = record { each = λ e h. ⊎-elim (λ q. inl (q ∙ t .each e h)) (λ q. inr q) (wished-then x y .each e) }
-
-pub extended-no : {gaps : ℕ} {mark wish : List ℕ} → Extended false gaps mark wish wish
+pub extended-no : {gaps : ℕ} {wish : List ℕ} → Extended false gaps wish wish
 extended-no = record { no = λ _. refl; yes = λ t. absurd (false≢true t); beyond = λ e h. refl }
 
-pub extended-yes : {gaps : ℕ} {mark next wish₀ wish : List ℕ} → Taken gaps next wish₀ wish → Regrown gaps mark next → Extended true gaps mark wish₀ wish
-extended-yes t grown =
+-- wishes anew
+pub extended-yes : {gaps : ℕ} {wish₀ wish₁ wish : List ℕ} → Unwished gaps wish₀ wish₁ → Wished gaps wish₁ wish → Extended true gaps wish₀ wish
+extended-yes u w =
     record {
       no = λ h. absurd (true≢false h);
-      yes = λ _. record { each = λ e h. rw (t .each e h) (grown .each e h) };
-      beyond = t .beyond;
+      yes = λ _ e h. ⊎-elim (λ q. omega (arith, q, u .each e h)) (λ q. q) (w .each e);
+      beyond = λ e h. w .beyond e h ∙ u .beyond e h;
     }
-
--- ---- the weakest gap: a label that was found is one
-
-pub under-label : {found : Weak} {x : Label} {load : ℤ} → found ≡ Under x load → UnderLabel found → x .0 < labelsMost
-under-label is h = rw is at h

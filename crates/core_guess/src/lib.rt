@@ -1,4 +1,6 @@
-// A guess at the forest of marked gaps, in doubles, and the block numbers by which it joins labels. Nobody trusts it.
+// What the guesses at the forest of marked gaps share: doubles, room for labels and gaps, marks that are carried, and the block
+// numbers by which labels are joined.
 pub mod blocks;
-pub mod guess;
-mod mend;
+pub mod doubles;
+pub mod marks;
+pub mod room;

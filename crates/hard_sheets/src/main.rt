@@ -1,6 +1,6 @@
-// Lays out sheets that the guess does not settle, and some that it does, each from three carried records. Tells of each call
-// whether the outer loop ran, and the answer; at the end, in how many calls it ran. Each sheet has a line with its name in
-// front and a byte 0, which no sheet has, behind. The sheets `family ..` are the first of that family in the Rust tests.
+// Lays out sheets with a ring, sheets on which a gap lacks less than doubles see, and sheets that the proposal settles, each from three
+// carried records. Tells of each call whether the outer loop ran, and the answer; at the end, in how many it ran. Each sheet has a line
+// with its name in front and a byte 0, which none has, behind. The sheets `family ..` and `hair ..` are first ones of the Rust tests.
 use core_proposal::propose;
 use ground::Answer;
 use ground::limits::GAPS;

@@ -211,10 +211,7 @@ fn self_gaps(random: &mut Random, sheet: &mut Sheet, hidden: &[i64], gaps: usize
 fn ring(random: &mut Random, sheet: &mut Sheet, hidden: &[i64], gaps: usize) {
     allowed_gaps(random, sheet, hidden, gaps.min(140));
     let mut walk: Vec<usize> = (0..hidden.len()).collect();
-    for k in 0..walk.len() {
-        let other = k + random.below(walk.len() - k);
-        walk.swap(k, other);
-    }
+    random.shuffle(&mut walk);
     walk.truncate(1 + random.below(walk.len()));
     let extra = random.pick(&[-1, 0, 0, 1, 1, 700]);
     let exact = random.pick(&[0, 2, 3]);
@@ -279,8 +276,8 @@ fn limits(random: &mut Random, sheet: &mut Sheet) {
     }
 }
 
-/// A sheet on which the guess of a start mostly fails, so that the outer loop has to finish: 48 labels that are wanted
-/// against the order of their gaps, backwards or with the two halves swapped. Some have a ring.
+/// A sheet that is hard to propose for: 48 labels that are wanted against the order of their gaps, backwards or with the
+/// two halves swapped. The guess of earlier releases mostly failed on such sheets. Some have a ring.
 pub fn hard(random: &mut Random) -> Sheet {
     let mut sheet = Sheet::default();
     let backwards = random.once_in(2);

@@ -2,6 +2,7 @@
 use crate::call::{check_call, checked_call, Lent, Outcome};
 use crate::generate::{hard, sheet, SHAPES};
 use crate::generated::Case;
+use crate::hair::hair;
 use crate::random::Random;
 use crate::sheet::{Gap, Sheet};
 use std::ops::Range;
@@ -100,12 +101,26 @@ fn pair(seed: u64) -> Pair {
     alike(&mut random, &sheet, &other)
 }
 
-/// The same of a sheet on which the guess of a start mostly fails: it has opposite gaps, and the other exact ones.
+/// The same of a sheet whose labels are wanted against its gaps: it has opposite gaps, and the other exact ones.
 fn hard_pair(seed: u64) -> Pair {
     let _case = Case(seed);
     let mut random = Random::new(seed);
     let sheet = hard(&mut random);
     match with_exact_gaps(&mut random, &sheet) {
+        Some(other) => alike(&mut random, &sheet, &other),
+        None => Pair::NothingReplaced,
+    }
+}
+
+/// The same of a sheet on which a gap lacks by a hair, whichever of the two kinds of gaps it has.
+fn hair_pair(seed: u64) -> Pair {
+    let _case = Case(seed);
+    let mut random = Random::new(seed);
+    let sheet = hair(&mut random).sheet;
+    let other =
+        with_exact_gaps(&mut random, &sheet).or_else(|| with_opposite_gaps(&mut random, &sheet));
+    match other {
+        Some(other) if other.gaps() > 192 => Pair::OverGapped,
         Some(other) => alike(&mut random, &sheet, &other),
         None => Pair::NothingReplaced,
     }
@@ -142,4 +157,11 @@ fn same_places_or_9_on_hard_sheets() {
         "hard pairs with exact gaps: {placed} placed, {ring} refused with 9, {nothing} without"
     );
     assert!(placed > 200 && ring > 30);
+}
+
+#[test]
+fn same_places_on_sheets_with_a_hair() {
+    let [placed, ring, nothing, over] = count(16_500_000..16_501_500, hair_pair);
+    println!("pairs with a hair: {placed} placed, {over} over-gapped, {nothing} without");
+    assert!(placed > 1_350 && ring == 0);
 }

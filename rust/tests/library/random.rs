@@ -39,4 +39,12 @@ impl Random {
     pub fn pick<T: Copy>(&mut self, of: &[T]) -> T {
         of[self.below(of.len())]
     }
+
+    /// Brings a list into any order.
+    pub fn shuffle<T>(&mut self, list: &mut [T]) {
+        for k in 0..list.len() {
+            let other = k + self.below(list.len() - k);
+            list.swap(k, other);
+        }
+    }
 }

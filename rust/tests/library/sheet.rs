@@ -80,6 +80,34 @@ impl Sheet {
             })
             .collect()
     }
+
+    /// The sheet with its labels numbered anew: label i gets the number `number[i]`.
+    pub fn with_labels_numbered(&self, number: &[usize]) -> Sheet {
+        let mut other = self.clone();
+        for (i, &n) in number.iter().enumerate() {
+            other.wanted[n] = self.wanted[i];
+            other.weight[n] = self.weight[i];
+        }
+        for e in 0..self.gaps() {
+            other.left[e] = number[self.left[e] as usize] as u64;
+            other.right[e] = number[self.right[e] as usize] as u64;
+        }
+        other
+    }
+
+    /// The sheet with these of its gaps, in this order.
+    pub fn with_gaps(&self, order: &[usize]) -> Sheet {
+        let mut other = Sheet {
+            wanted: self.wanted.clone(),
+            weight: self.weight.clone(),
+            ..Sheet::default()
+        };
+        for &e in order {
+            let (left, right) = (self.left[e] as usize, self.right[e] as usize);
+            other.add(left, right, self.distance[e], self.kind[e]);
+        }
+        other
+    }
 }
 
 impl Gap {

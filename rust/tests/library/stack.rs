@@ -3,7 +3,9 @@
 use crate::call::{refused_at, Lent};
 use crate::generate::{sheet, SHAPES};
 use crate::generated::Case;
+use crate::hair::hair;
 use crate::random::Random;
+use crate::sheet::Sheet;
 use crate::text::writer::listing;
 use dirmoog::{read_sheet, round, round_half_up, slack, write_listing};
 use dirmoog::{Answer, Counts, Fraction, Listable, Listed, Lists, Reading, Rounded, SlackAnswer};
@@ -20,6 +22,17 @@ fn on_little<T: Send>(work: impl FnOnce() -> T + Send) -> T {
     })
 }
 
+/// A call on a sheet.
+fn layout(mut lent: Lent, sheet: &Sheet) {
+    let mut again = lent.clone();
+    let answer = on_little(|| lent.call(sheet));
+    assert_eq!(answer, again.call(sheet));
+    assert_eq!(lent, again);
+    if answer == Answer::Placed {
+        again.records(sheet);
+    }
+}
+
 #[test]
 fn layouts() {
     for seed in 0..900 {
@@ -27,14 +40,19 @@ fn layouts() {
         let mut random = Random::new(seed);
         let shape = random.pick(&SHAPES);
         let sheet = sheet(&mut random, shape, 40..=48);
-        let mut lent = Lent::arbitrary(&mut random, sheet.labels(), sheet.gaps());
-        let mut again = lent.clone();
-        let answer = on_little(|| lent.call(&sheet));
-        assert_eq!(answer, again.call(&sheet));
-        assert_eq!(lent, again);
-        if answer == Answer::Placed {
-            again.records(&sheet);
-        }
+        let lent = Lent::arbitrary(&mut random, sheet.labels(), sheet.gaps());
+        layout(lent, &sheet);
+    }
+}
+
+/// Sheets on which the outer loop runs and finds no ring.
+#[test]
+fn layouts_with_a_hair() {
+    for seed in 0..300 {
+        let _case = Case(seed);
+        let mut random = Random::new(seed);
+        let sheet = hair(&mut random).sheet;
+        layout(Lent::zeros(sheet.labels(), sheet.gaps()), &sheet);
     }
 }
 
