@@ -4,14 +4,14 @@ use native.Mathlib.Omega.{arith}
 use borrow.Author.Needs.{needs}
 use Rattle.core_dual.proofs.dual.push_all.Statement.{statement}
 use Rattle.core_dual.proofs.dual.push_all.Tie as tie
-use Rattle.core_dual.proofs.dual.push.Reads as push-reads
 use Rattle.core_dual.proofs.dual.worst_gap.Reads as worst-gap-reads
+use Rattle.core_push.proofs.push.push.Reads as push-reads
 
 abbrev Inv-loop : tie.InvT-loop
-Inv-loop labels gaps left right reach kind block₀ up₀ via₀ place₀ rest₀ weight₀ turns₀ block up via place rest weight turns = turns ≤ 512
+Inv-loop labels gaps left right reach links₀ sums₀ turns₀ links sums turns = turns ≤ 512
 
 abbrev μ-loop : tie.MeasureT-loop
-μ-loop labels gaps left right reach kind block₀ up₀ via₀ place₀ rest₀ weight₀ turns₀ block up via place rest weight turns = 512 - turns
+μ-loop labels gaps left right reach links₀ sums₀ turns₀ links sums turns = 512 - turns
 
 loop-holds : tie.Need-loop-holds Inv-loop μ-loop
 loop-holds c = omega arith
@@ -28,14 +28,11 @@ enum-told c = search needs
 returns : tie.Need-returns Inv-loop μ-loop
 returns c = search needs
 
-returns-2 : tie.Need-returns-2 Inv-loop μ-loop
-returns-2 c = search needs
-
 push-requires : tie.Need-push-requires Inv-loop μ-loop
 push-requires c κs = search needs
 
-returns-3 : tie.Need-returns-3 Inv-loop μ-loop
-returns-3 c = search needs
+returns-2 : tie.Need-returns-2 Inv-loop μ-loop
+returns-2 c = search needs
 
 add-turns : tie.Need-add-turns Inv-loop μ-loop
 add-turns c = omega arith
@@ -46,8 +43,8 @@ loop-less c = omega arith
 loop-again : tie.Need-loop-again Inv-loop μ-loop
 loop-again c = omega arith
 
-returns-4 : tie.Need-returns-4 Inv-loop μ-loop
-returns-4 c = search needs
+returns-3 : tie.Need-returns-3 Inv-loop μ-loop
+returns-3 c = search needs
 
 pub push-all-spec : {M : Type 1} → statement M
 push-all-spec =
@@ -60,10 +57,9 @@ push-all-spec =
     enum-known-lead
     enum-told
     returns
-    returns-2
     push-requires
-    returns-3
+    returns-2
     add-turns
     loop-less
     loop-again
-    returns-4)
+    returns-3)

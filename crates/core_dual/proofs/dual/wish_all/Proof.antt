@@ -8,27 +8,23 @@ use borrow.Author.Needs.{needs}
 use Rattle.core_dual.proofs.dual.wish_all.Statement.{statement}
 use Rattle.core_dual.proofs.dual.wish_all.Tie as tie
 use Rattle.core_dual.proofs.dual.wish_one.Reads as wish-one-reads
+use Rattle.core_trees.proofs.nodes.above.Reads as above-reads
+use Rattle.core_trees.proofs.nodes.gap_above.Reads as gap-above-reads
 
 abbrev Inv-loop : tie.InvT-loop
-Inv-loop labels gaps up via wish₀ i₀ wish i = (i ≤ labels) × Wished gaps wish₀ wish
+Inv-loop labels gaps links wish₀ i₀ wish i = (i ≤ labels) × Wished gaps wish₀ wish
 
 abbrev μ-loop : tie.MeasureT-loop
-μ-loop labels gaps up via wish₀ i₀ wish i = labels - i
+μ-loop labels gaps links wish₀ i₀ wish i = labels - i
 
 loop-holds : tie.Need-loop-holds Inv-loop μ-loop
 loop-holds c = (omega arith, wished-none)
 
-mul-if1 : tie.Need-mul-if1 Inv-loop μ-loop
-mul-if1 c = omega arith
+above-requires : tie.Need-above-requires Inv-loop μ-loop
+above-requires c κs = search needs
 
-element-copy-out-if1 : tie.Need-element-copy-out-if1 Inv-loop μ-loop
-element-copy-out-if1 c = omega arith
-
-mul-t13 : tie.Need-mul-t13 Inv-loop μ-loop
-mul-t13 c = omega arith
-
-element-copy-out-t16 : tie.Need-element-copy-out-t16 Inv-loop μ-loop
-element-copy-out-t16 c = omega arith
+gap-above-requires : tie.Need-gap-above-requires Inv-loop μ-loop
+gap-above-requires c κs = search needs
 
 wish-one-requires : tie.Need-wish-one-requires Inv-loop μ-loop
 wish-one-requires c κs = search needs
@@ -41,7 +37,7 @@ loop-less c = omega arith
 
 loop-again : tie.Need-loop-again Inv-loop μ-loop
 loop-again c =
-    let so = c .before .before .before .loop .inv .1 in
+    let so = c .before .before .before .before .loop .inv .1 in
     (omega arith, ⊎-elim (λ w. rw (w .4) (wished-then so (w .3 .ensures))) (λ w. rw (w .1) so) (c .if1 .came))
 
 returns : tie.Need-returns Inv-loop μ-loop
@@ -54,10 +50,8 @@ wish-all-spec =
     Inv-loop
     μ-loop
     loop-holds
-    mul-if1
-    element-copy-out-if1
-    mul-t13
-    element-copy-out-t16
+    above-requires
+    gap-above-requires
     wish-one-requires
     add-i
     loop-less
