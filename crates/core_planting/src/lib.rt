@@ -1,2 +1,3 @@
-// The forest of marked gaps in doubles, as the balance left it. Nobody trusts it.
+// The forest of marked gaps in doubles grows: as the balance left it, and then tree by tree. Nobody trusts it.
 pub mod planting;
+pub mod uniting;
