@@ -1,8 +1,8 @@
 // Two blocks become one, which stands where its weighted mean is.
-use crate::circles::Circles;
-use crate::circles::Ends;
-use crate::circles::join_circles;
+use crate::circles::attach;
+use crate::circles::swap;
 use crate::state::BLOCK;
+use crate::state::END;
 use crate::state::Links;
 use crate::state::NEXT;
 use crate::state::OFFSET;
@@ -11,66 +11,109 @@ use crate::state::SIZE;
 use crate::state::Spots;
 use crate::state::WEIGHT;
 use crate::state::block_of;
-use core_guess::doubles::double;
+use crate::state::distance_of;
+use crate::state::end_of;
+use crate::state::entry;
+use crate::state::link;
+use crate::state::offset_of;
+use crate::state::set_spot;
+use crate::state::size_of;
+use crate::state::spot;
 use core_guess::room::ROOM;
 use ground::Block;
 use ground::GapNumber;
 use ground::Label;
 use ground::bytes::narrow;
-use ground::bytes::wide;
 use ground::limits::GapIndices;
 use ground::limits::GapInts;
 ghost use Prim.Native.Nat.{_<_};
 ghost use Rattle.core_guess.specs.Guess.{Guessed};
-ghost use Rattle.ground.specs.Views.{after};
 ghost use Rattle.ground.specs.Limits.{gapsMost};
+ghost use Rattle.ground.specs.Views.{after};
 
-// The labels of block from go to block to, whose place they stand farther from by so much.
+// A size is kept as a byte.
+const SIZES: usize = 256;
+
+// Block from becomes part of block to, whose place and weight change. Its labels stand farther from that place by so much.
+struct Joint {
+    to: Block,
+    from: Block,
+    by: f64,
+    place: f64,
+    weight: f64,
+}
+
+// Block from, whose labels stand farther from the place of block to by so much, joined to it.
+fn joined(to: Block, from: Block, by: f64, spots: &Spots) -> Joint {
+    let a = entry(to);
+    let b = entry(from);
+    let one = spot(WEIGHT + a, spots);
+    let two = spot(WEIGHT + b, spots);
+    let weight = one + two;
+    let place = (spot(PLACE + a, spots) * one + (spot(PLACE + b, spots) - by) * two) / weight;
+    Joint {
+        to: to,
+        from: from,
+        by: by,
+        place: place,
+        weight: weight,
+    }
+}
+
+// How the blocks at the ends of gap e become one in which it is tight. The smaller one is moved.
+fn joint_of(
+    e: GapNumber,
+    left: &GapIndices,
+    right: &GapIndices,
+    distance: &GapInts,
+    links: &Links,
+    spots: &Spots,
+) -> Joint
+    requires { ⌜ e .0 < gapsMost ⌝ }
+{
+    let u = end_of(e, left);
+    let v = end_of(e, right);
+    let a = block_of(u, links);
+    let b = block_of(v, links);
+    let by = offset_of(u, spots) + distance_of(e, distance) - offset_of(v, spots);
+    if size_of(a, links) < size_of(b, links) {
+        return joined(b, a, -by, spots);
+    }
+    joined(a, b, by, spots)
+}
+
+// Label x goes to a block, whose place it stands farther from.
+fn move_label(x: Label, to: Block, by: f64, links: &mut Links, spots: &mut Spots) {
+    let i = x.0 % ROOM;
+    links[BLOCK + i] = to.0;
+    let offset = spot(OFFSET + i, spots) + by;
+    set_spot(OFFSET + i, offset, spots);
+}
+
+// The labels of block from go to block to.
 fn move_labels(to: Block, from: Block, by: f64, links: &mut Links, spots: &mut Spots) {
-    let new = to.0;
-    let b = wide(from.0) % ROOM;
-    let count = wide(links[SIZE + b]);
-    let mut i = b;
+    let count = size_of(from, links);
+    let mut i = entry(from);
     let mut k: usize = 0;
     while k < count {
-        links[BLOCK + i] = new;
-        spots[OFFSET + i] = spots[OFFSET + i] + by;
-        i = wide(links[NEXT + i]) % ROOM;
+        move_label(Label(i), to, by, links, spots);
+        i = link(NEXT + i, links) % ROOM;
         k += 1;
     }
 }
 
-// The circles of the labels of two blocks become one.
-fn join_labels(to: Block, from: Block, links: &mut Links) {
-    let a = wide(to.0) % ROOM;
-    let b = wide(from.0) % ROOM;
-    let after = links[NEXT + a];
-    links[NEXT + a] = links[NEXT + b];
-    links[NEXT + b] = after;
-    links[SIZE + a] = narrow((wide(links[SIZE + a]) + wide(links[SIZE + b])) % 256);
+// The circles of the labels of two blocks become one, and the circles of the gaps into them.
+fn join_circles(to: Block, from: Block, links: &mut Links) {
+    let a = entry(to);
+    let b = entry(from);
+    let size = size_of(to, links) + size_of(from, links);
+    links[SIZE + a] = narrow(size % SIZES);
+    swap(NEXT + a, NEXT + b, links);
+    let last = link(END + b, links);
+    attach(GapNumber(last), Label(a), links);
 }
 
-// Block from becomes part of block to. A label at its place stands farther from the place of block to by so much.
-fn merge(to: Block, from: Block, by: f64, links: &mut Links, spots: &mut Spots) {
-    let a = wide(to.0) % ROOM;
-    let b = wide(from.0) % ROOM;
-    let one = spots[WEIGHT + a];
-    let two = spots[WEIGHT + b];
-    let weight = one + two;
-    spots[PLACE + a] = (spots[PLACE + a] * one + (spots[PLACE + b] - by) * two) / weight;
-    spots[WEIGHT + a] = weight;
-    move_labels(to, from, by, links, spots);
-    join_labels(to, from, links);
-}
-
-// Whether block a has fewer labels than block b.
-fn is_smaller(a: Block, b: Block, links: &Links) -> bool {
-    let one = wide(a.0) % ROOM;
-    let two = wide(b.0) % ROOM;
-    links[SIZE + one] < links[SIZE + two]
-}
-
-// The blocks at the ends of gap e become one, in which the gap is tight. The smaller one is moved. Gives the block.
+// The blocks at the ends of gap e become one, in which the gap is tight. Gives the block.
 pub fn close(
     e: GapNumber,
     left: &GapIndices,
@@ -78,24 +121,15 @@ pub fn close(
     distance: &GapInts,
     links: &mut Links,
     spots: &mut Spots,
-    end: &mut Ends,
-    next: &mut Circles,
 ) -> Block
     requires { ⌜ e .0 < gapsMost ⌝ }
-    ensures { λ r. ⌜ Guessed (after links) × Guessed (after spots) × Guessed (after end) × Guessed (after next) × Guessed r ⌝ }
+    ensures { λ r. ⌜ Guessed (after links) × Guessed (after spots) × Guessed r ⌝ }
 {
-    let k = e.0;
-    let u = left[k] % ROOM;
-    let v = right[k] % ROOM;
-    let a = block_of(Label(u), links);
-    let b = block_of(Label(v), links);
-    let by = spots[OFFSET + u] + double(distance[k]) - spots[OFFSET + v];
-    if is_smaller(a, b, links) {
-        merge(b, a, -by, links, spots);
-        join_circles(b, a, end, next);
-        return b;
-    }
-    merge(a, b, by, links, spots);
-    join_circles(a, b, end, next);
-    a
+    let joint = joint_of(e, left, right, distance, links, spots);
+    let a = entry(joint.to);
+    set_spot(PLACE + a, joint.place, spots);
+    set_spot(WEIGHT + a, joint.weight, spots);
+    move_labels(joint.to, joint.from, joint.by, links, spots);
+    join_circles(joint.to, joint.from, links);
+    joint.to
 }

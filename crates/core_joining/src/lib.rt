@@ -2,4 +2,5 @@
 // one. In doubles, and nobody trusts it.
 pub mod circles;
 pub mod joining;
+pub mod start;
 pub mod state;

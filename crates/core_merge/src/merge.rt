@@ -1,28 +1,27 @@
 // Blocks are merged leftwards: while a gap into a block from another one lacks, the two blocks at the ends of the gap that lacks
 // most become one.
 use core_guess::doubles::TOLERANCE;
-use core_guess::doubles::double;
-use core_guess::room::GAP_ROOM;
 use core_guess::room::NO_GAP;
-use core_guess::room::ROOM;
-use core_joining::circles::Circles;
-use core_joining::circles::Ends;
-use core_joining::circles::enclose_all;
 use core_joining::joining::close;
-use core_joining::state::BLOCK;
+use core_joining::start::start;
+use core_joining::state::CIRCLE;
+use core_joining::state::DONE;
+use core_joining::state::END;
+use core_joining::state::LINKS;
 use core_joining::state::Links;
+use core_joining::state::SPOTS;
 use core_joining::state::Spots;
 use core_joining::state::block_of;
+use core_joining::state::distance_of;
+use core_joining::state::end_of;
+use core_joining::state::entry;
+use core_joining::state::link;
 use core_joining::state::place_of;
-use core_joining::state::stand;
-use core_order::order::DONE;
-use core_order::order::Walk;
 use core_order::order::in_order;
 use ground::Block;
 use ground::GapNumber;
 use ground::Label;
 use ground::bytes::narrow;
-use ground::bytes::wide;
 use ground::limits::EXACTLY;
 use ground::limits::GAPS;
 use ground::limits::GapBytes;
@@ -32,95 +31,96 @@ use ground::limits::LABELS;
 use ground::limits::LabelInts;
 ghost use Prim.Native.Nat.{_≤_, _<_};
 ghost use Rattle.core_guess.specs.Guess.{Wished};
-ghost use Rattle.ground.specs.Limits.{gapsMost, labelsMost};
+ghost use Rattle.ground.specs.Limits.{bytesMost, gapsMost, labelsMost};
 ghost use Rattle.ground.specs.Views.{after, before};
 
-// The gap that lacks most, if one lacks.
-enum Found {
-    Nothing,
-    Gap(GapNumber),
-}
-
-// How much gap e lacks.
-fn lack_of(
-    e: GapNumber,
-    left: &GapIndices,
-    right: &GapIndices,
-    distance: &GapInts,
-    links: &Links,
-    spots: &Spots,
-) -> f64
+// Whether gap e starts in block b.
+fn is_from(e: GapNumber, b: Block, left: &GapIndices, links: &Links) -> bool
     requires { ⌜ e .0 < gapsMost ⌝ }
 {
-    let k = e.0;
-    let from = place_of(Label(left[k]), links, spots);
-    from + double(distance[k]) - place_of(Label(right[k]), links, spots)
+    let a = block_of(end_of(e, left), links);
+    a.0 == b.0
 }
 
-// The gap found, as it is told: GAPS stands for none.
-fn told(found: usize) -> Found {
-    if GAPS <= found {
-        return Found::Nothing;
-    }
-    Found::Gap(GapNumber(found))
-}
-
-// Where a circle ends whose end was taken out: at the last gap that stays, if one does.
-fn end_after(stays: usize, end: usize) -> u8 {
-    if stays == end {
-        return NO_GAP;
-    }
-    narrow(stays % GAP_ROOM)
-}
-
-// The gap into block b from another one that lacks most. Gaps within the block are taken out of its circle on the way.
-fn widest(
-    b: Block,
+// How much gap e lacks. A gap of no kind lacks nothing.
+fn lack_of(
+    e: GapNumber,
     left: &GapIndices,
     right: &GapIndices,
     distance: &GapInts,
     kind: &GapBytes,
     links: &Links,
     spots: &Spots,
-    end: &mut Ends,
-    next: &mut Circles,
-) -> Found {
-    let own = b.0;
-    let i = wide(own) % ROOM;
-    let last = wide(end[i]);
-    if GAPS <= last {
-        return Found::Nothing;
+) -> f64
+    requires { ⌜ e .0 < gapsMost ⌝ }
+{
+    let k = e.0;
+    if EXACTLY < kind[k] {
+        return 0.0;
     }
+    let from = place_of(end_of(e, left), links, spots);
+    from + distance_of(e, distance) - place_of(end_of(e, right), links, spots)
+}
+
+// Where a circle ends whose end was taken out: at the last gap that stays, if one does.
+fn end_after(stays: usize, end: usize) -> u8
+    requires { ⌜ stays < bytesMost ⌝ }
+{
+    if stays == end {
+        return NO_GAP;
+    }
+    narrow(stays)
+}
+
+// Takes gap e out of the circle of block b. The gap before it stays, and the circle ends there if it ended with gap e.
+fn take_out(e: GapNumber, stays: GapNumber, b: Block, links: &mut Links)
+    requires { ⌜ (e .0 < gapsMost) × (stays .0 < bytesMost) ⌝ }
+{
+    let k = e.0;
+    let s = stays.0;
+    let i = entry(b);
+    links[CIRCLE + s] = links[CIRCLE + k];
+    if link(END + i, links) == k {
+        links[END + i] = end_after(s, k);
+    }
+}
+
+// The gap into block b from another one that lacks most, or GAPS. Gaps within the block are taken out of its circle on the way.
+fn widest(
+    b: Block,
+    left: &GapIndices,
+    right: &GapIndices,
+    distance: &GapInts,
+    kind: &GapBytes,
+    links: &mut Links,
+    spots: &Spots,
+) -> GapNumber {
+    let last = link(END + entry(b), links);
     let mut most = TOLERANCE;
     let mut found = GAPS;
     let mut stays = last;
     let mut turns: usize = 0;
     while turns < GAPS {
-        let e = wide(next[stays]);
+        let e = link(CIRCLE + stays, links);
         if GAPS <= e {
-            return told(found);
+            return GapNumber(found);
         }
-        let u = left[e] % ROOM;
-        if links[BLOCK + u] == own {
-            next[stays] = next[e];
-            if e == last {
-                end[i] = end_after(stays, last);
-                return told(found);
-            }
+        if is_from(GapNumber(e), b, left, links) {
+            take_out(GapNumber(e), GapNumber(stays), b, links);
         } else {
-            let lack = lack_of(GapNumber(e), left, right, distance, links, spots);
-            if most < lack && kind[e] <= EXACTLY {
+            let lack = lack_of(GapNumber(e), left, right, distance, kind, links, spots);
+            if most < lack {
                 most = lack;
                 found = e;
             }
-            if e == last {
-                return told(found);
-            }
             stays = e;
+        }
+        if e == last {
+            return GapNumber(found);
         }
         turns += 1;
     }
-    told(found)
+    GapNumber(found)
 }
 
 // Merges the block of label x with others while a gap into it lacks. Wishes those gaps.
@@ -133,8 +133,6 @@ fn drain(
     kind: &GapBytes,
     links: &mut Links,
     spots: &mut Spots,
-    end: &mut Ends,
-    next: &mut Circles,
     wish: &mut GapBytes,
 )
     requires { ⌜ gaps ≤ gapsMost ⌝ }
@@ -144,25 +142,12 @@ fn drain(
     let mut b = start.0;
     let mut turns: usize = 0;
     while turns < LABELS {
-        let lead = widest(
-            Block(b),
-            left,
-            right,
-            distance,
-            kind,
-            links,
-            spots,
-            end,
-            next,
-        );
-        let Found::Gap(e) = lead else {
-            return;
-        };
-        let k = e.0;
+        let lead = widest(Block(b), left, right, distance, kind, links, spots);
+        let k = lead.0;
         if gaps <= k {
             return;
         }
-        let merged = close(GapNumber(k), left, right, distance, links, spots, end, next);
+        let merged = close(lead, left, right, distance, links, spots);
         b = merged.0;
         wish[k] = 1;
         turns += 1;
@@ -173,15 +158,12 @@ fn drain(
 fn sweep(
     labels: usize,
     gaps: usize,
-    walk: &Walk,
     left: &GapIndices,
     right: &GapIndices,
     distance: &GapInts,
     kind: &GapBytes,
     links: &mut Links,
     spots: &mut Spots,
-    end: &mut Ends,
-    next: &mut Circles,
     wish: &mut GapBytes,
 )
     requires { ⌜ (labels ≤ labelsMost) × (gaps ≤ gapsMost) ⌝ }
@@ -189,25 +171,32 @@ fn sweep(
 {
     let mut i: usize = 0;
     while i < labels {
-        let x = Label(wide(walk[DONE + i]));
-        drain(
-            gaps,
-            x,
-            left,
-            right,
-            distance,
-            kind,
-            links,
-            spots,
-            end,
-            next,
-            wish,
-        );
+        let x = Label(link(DONE + i, links));
+        drain(gaps, x, left, right, distance, kind, links, spots, wish);
         i += 1;
     }
 }
 
-// Merges the blocks at the ends of each exact gap, and of each gap that an opposite one makes exact, which is wished already.
+// Whether gap e is exact, or made so by an opposite one and wished already, and goes from one block to another.
+fn is_to_close(
+    e: GapNumber,
+    left: &GapIndices,
+    right: &GapIndices,
+    kind: &GapBytes,
+    wish: &GapBytes,
+    links: &Links,
+) -> bool
+    requires { ⌜ e .0 < gapsMost ⌝ }
+{
+    let k = e.0;
+    if kind[k] == EXACTLY || wish[k] == 1 {
+        let b = block_of(end_of(e, right), links);
+        return !is_from(e, b, left, links);
+    }
+    false
+}
+
+// Merges the blocks at the ends of each exact gap, and of each gap that an opposite one makes exact.
 fn close_exact(
     gaps: usize,
     left: &GapIndices,
@@ -217,19 +206,13 @@ fn close_exact(
     wish: &GapBytes,
     links: &mut Links,
     spots: &mut Spots,
-    end: &mut Ends,
-    next: &mut Circles,
 )
     requires { ⌜ gaps ≤ gapsMost ⌝ }
 {
     let mut e: usize = 0;
     while e < gaps {
-        if kind[e] == EXACTLY || wish[e] == 1 {
-            let u = left[e] % ROOM;
-            let v = right[e] % ROOM;
-            if links[BLOCK + u] != links[BLOCK + v] {
-                close(GapNumber(e), left, right, distance, links, spots, end, next);
-            }
+        if is_to_close(GapNumber(e), left, right, kind, wish, links) {
+            close(GapNumber(e), left, right, distance, links, spots);
         }
         e += 1;
     }
@@ -254,24 +237,10 @@ pub fn first(
     if gaps == 0 {
         return;
     }
-    let mut end = [NO_GAP; ROOM];
-    let mut next = [0u8; GAP_ROOM];
-    let mut walk = [0u8; 256];
-    let mut links = [0u8; 192];
-    let mut spots = [0.0f64; 192];
-    enclose_all(gaps, right, &mut end, &mut next);
-    let straight = in_order(
-        labels,
-        gaps,
-        left,
-        right,
-        distance,
-        &end,
-        &next,
-        &mut walk,
-        wish,
-    );
-    stand(labels, wanted, weight, &mut links, &mut spots);
+    let mut links = [NO_GAP; LINKS];
+    let mut spots = [0.0f64; SPOTS];
+    start(labels, gaps, right, wanted, weight, &mut links, &mut spots);
+    let straight = in_order(labels, gaps, left, right, distance, &mut links, wish);
     close_exact(
         gaps,
         left,
@@ -281,21 +250,16 @@ pub fn first(
         wish,
         &mut links,
         &mut spots,
-        &mut end,
-        &mut next,
     );
     sweep(
         labels,
         gaps,
-        &walk,
         left,
         right,
         distance,
         kind,
         &mut links,
         &mut spots,
-        &mut end,
-        &mut next,
         wish,
     );
     if straight {
@@ -304,15 +268,12 @@ pub fn first(
     sweep(
         labels,
         gaps,
-        &walk,
         left,
         right,
         distance,
         kind,
         &mut links,
         &mut spots,
-        &mut end,
-        &mut next,
         wish,
     );
 }

@@ -1,108 +1,172 @@
 // The labels in the order of the gaps: the left label of a gap comes before the right one, but for gaps that close a ring. The
 // search goes depth first from a label to those on the left of the gaps into it.
-use core_guess::doubles::double;
-use core_guess::room::NO_GAP;
 use core_guess::room::ROOM;
-use core_joining::circles::Circles;
-use core_joining::circles::Ends;
+use core_joining::state::CIRCLE;
+use core_joining::state::DONE;
+use core_joining::state::END;
+use core_joining::state::IS_DONE;
+use core_joining::state::IS_NEW;
+use core_joining::state::LOOK;
+use core_joining::state::Links;
+use core_joining::state::NONE;
+use core_joining::state::OPEN;
+use core_joining::state::distance_of;
+use core_joining::state::end_of;
+use core_joining::state::link;
 use ground::GapNumber;
 use ground::Label;
 use ground::bytes::narrow;
-use ground::bytes::wide;
 use ground::limits::GAPS;
 use ground::limits::GapBytes;
 use ground::limits::GapIndices;
 use ground::limits::GapInts;
 ghost use Prim.Native.Nat.{_≤_, _<_};
 ghost use Rattle.core_guess.specs.Guess.{Wished};
-ghost use Rattle.ground.specs.Limits.{gapsMost, labelsMost};
+ghost use Rattle.core_joining.specs.Room.{linksMost};
+ghost use Rattle.ground.specs.Limits.{bytesMost, gapsMost, labelsMost};
 ghost use Rattle.ground.specs.Views.{after, before};
 
-// Sections of the search: whether a label is new (0), open or done; the gap into it to look at next; the open labels, each found
-// from the one before; and the labels that are done, in the order asked for.
-const STATE: usize = 0;
-
-const LOOK: usize = 64;
-
-const OPEN: usize = 128;
-
-pub const DONE: usize = 192;
-
-pub type Walk = [u8; 256];
-
-const IS_OPEN: u8 = 1;
-
-const IS_DONE: u8 = 2;
-
-// Steps of the search: it opens each label, is done with it, and looks at each gap once.
+// Steps of the search: it opens each label, is done with it, and looks at each gap, and again at one through which it came back.
 const STEPS: usize = 512;
 
-// What a step of the search comes to: a label is opened or done, or a gap is passed, or it closes a ring.
-enum Outcome {
-    Opened,
-    Done,
-    Passed,
-    Ring(GapNumber),
-}
-
-// Opens label x as the open label of number at.
-fn open(x: Label, at: usize, end: &Ends, next: &Circles, walk: &mut Walk) {
-    let i = x.0 % ROOM;
-    let last = wide(end[i]);
-    walk[STATE + i] = IS_OPEN;
-    walk[OPEN + at % ROOM] = narrow(i);
-    walk[LOOK + i] = NO_GAP;
-    if last < GAPS {
-        walk[LOOK + i] = next[last];
-    }
-}
-
-// Label x is done, as number at.
-fn finish(x: Label, at: usize, walk: &mut Walk) {
-    let i = x.0 % ROOM;
-    walk[STATE + i] = IS_DONE;
-    walk[DONE + at % ROOM] = narrow(i);
-}
-
-// Gap e into label x is looked at: the next one in the circle is to be looked at, unless this is the last.
-fn pass(e: GapNumber, x: Label, end: &Ends, next: &Circles, walk: &mut Walk)
-    requires { ⌜ e .0 < gapsMost ⌝ }
-{
-    let k = e.0;
-    let i = x.0 % ROOM;
-    walk[LOOK + i] = NO_GAP;
-    if wide(end[i]) != k {
-        walk[LOOK + i] = next[k];
-    }
-}
-
-// Goes on at the last open label. They are counted from 1.
-fn step(
+// A step of the search: a label, what there is to look at of it then, and the entry in which the label is kept; how many labels are
+// open and done then; and the gap that closes a ring, or GAPS.
+struct Step {
+    label: Label,
+    look: usize,
+    at: usize,
     opened: usize,
     done: usize,
-    left: &GapIndices,
-    end: &Ends,
-    next: &Circles,
-    walk: &mut Walk,
-) -> Outcome {
+    ring: GapNumber,
+}
+
+// What there is to look at of label x.
+fn look_of(x: Label, links: &Links) -> usize
+    ensures { λ r. ⌜ r < bytesMost ⌝ }
+{
+    link(LOOK + x.0 % ROOM, links)
+}
+
+// What there is to look at of label x after gap e: no gap after the last in the circle.
+fn look_after(e: GapNumber, x: Label, links: &Links) -> usize
+    requires { ⌜ e .0 < gapsMost ⌝ }
+    ensures { λ r. ⌜ r < bytesMost ⌝ }
+{
+    let k = e.0;
+    if link(END + x.0 % ROOM, links) == k {
+        return NONE;
+    }
+    link(CIRCLE + k, links)
+}
+
+// Label x is opened as the open label of number at. They are counted from 1.
+fn opening(x: Label, at: usize, done: usize, links: &Links) -> Step
+    ensures { λ r. ⌜ (r .look < bytesMost) × (r .at < linksMost) ⌝ }
+{
+    let last = link(END + x.0 % ROOM, links);
+    let look = link(CIRCLE + last, links);
+    Step {
+        label: x,
+        look: look,
+        at: OPEN + at % ROOM,
+        opened: at,
+        done: done,
+        ring: GapNumber(GAPS),
+    }
+}
+
+// Label x is opened as the first, if it is new.
+fn beginning(x: Label, done: usize, links: &Links) -> Step
+    ensures { λ r. ⌜ (r .look < bytesMost) × (r .at < linksMost) ⌝ }
+{
+    let look = look_of(x, links);
+    if look == IS_NEW {
+        return opening(x, 1, done, links);
+    }
+    Step {
+        label: x,
+        look: look,
+        at: OPEN,
+        opened: 0,
+        done: done,
+        ring: GapNumber(GAPS),
+    }
+}
+
+// Goes on at the last open label, or where none is open at label x.
+fn step_of(x: Label, opened: usize, done: usize, left: &GapIndices, links: &Links) -> Step
+    ensures { λ r. ⌜ (r .look < bytesMost) × (r .at < linksMost) ⌝ }
+{
+    if opened == 0 {
+        return beginning(x, done, links);
+    }
     let at = opened % ROOM;
-    let i = wide(walk[OPEN + at]) % ROOM;
-    let e = wide(walk[LOOK + i]);
+    let y = Label(link(OPEN + at, links));
+    let e = look_of(y, links);
     if GAPS <= e {
-        finish(Label(i), done, walk);
-        return Outcome::Done;
+        let n = done % ROOM;
+        return Step {
+            label: y,
+            look: IS_DONE,
+            at: DONE + n,
+            opened: opened - 1,
+            done: n + 1,
+            ring: GapNumber(GAPS),
+        };
     }
-    pass(GapNumber(e), Label(i), end, next, walk);
-    let u = left[e] % ROOM;
-    let state = walk[STATE + u];
-    if state == 0 {
-        open(Label(u), at + 1, end, next, walk);
-        return Outcome::Opened;
+    let state = look_of(end_of(GapNumber(e), left), links);
+    if state == IS_NEW {
+        return opening(end_of(GapNumber(e), left), at + 1, done, links);
     }
-    if state == IS_OPEN {
-        return Outcome::Ring(GapNumber(e));
+    let look = look_after(GapNumber(e), y, links);
+    if state == IS_DONE {
+        return Step {
+            label: y,
+            look: look,
+            at: OPEN + at,
+            opened: opened,
+            done: done,
+            ring: GapNumber(GAPS),
+        };
     }
-    Outcome::Passed
+    Step {
+        label: y,
+        look: look,
+        at: OPEN + at,
+        opened: opened,
+        done: done,
+        ring: GapNumber(e),
+    }
+}
+
+// Keeps a label and what there is to look at of it.
+fn keep(x: Label, look: usize, at: usize, links: &mut Links)
+    requires { ⌜ (look < bytesMost) × (at < linksMost) ⌝ }
+{
+    let i = x.0 % ROOM;
+    links[LOOK + i] = narrow(look);
+    links[at] = narrow(i);
+}
+
+// Whether gap f, if it is one, goes from where gap e ends and has the negated distance.
+fn opposes(
+    f: GapNumber,
+    e: GapNumber,
+    left: &GapIndices,
+    right: &GapIndices,
+    distance: &GapInts,
+) -> bool
+    requires { ⌜ e .0 < gapsMost ⌝ }
+{
+    if GAPS <= f.0 {
+        return false;
+    }
+    let u = end_of(f, left);
+    let v = end_of(e, right);
+    if u.0 != v.0 {
+        return false;
+    }
+    distance_of(f, distance) == -distance_of(e, distance)
 }
 
 // Whether a gap the other way with the negated distance stands beside gap e: the two are as good as an exact gap.
@@ -111,25 +175,18 @@ fn is_opposed(
     left: &GapIndices,
     right: &GapIndices,
     distance: &GapInts,
-    end: &Ends,
-    next: &Circles,
+    links: &Links,
 ) -> bool
     requires { ⌜ e .0 < gapsMost ⌝ }
 {
-    let k = e.0;
-    let u = left[k] % ROOM;
-    let last = wide(end[u]);
+    let u = end_of(e, left);
+    let last = link(END + u.0 % ROOM, links);
     let mut f = last;
     let mut turns: usize = 0;
     while turns < GAPS {
-        f = wide(next[f]);
-        if GAPS <= f {
-            return false;
-        }
-        if left[f] == right[k] {
-            if double(distance[f]) == -double(distance[k]) {
-                return true;
-            }
+        f = link(CIRCLE + f, links);
+        if opposes(GapNumber(f), e, left, right, distance) {
+            return true;
         }
         if f == last {
             return false;
@@ -146,79 +203,16 @@ fn wish_opposed(
     left: &GapIndices,
     right: &GapIndices,
     distance: &GapInts,
-    end: &Ends,
-    next: &Circles,
+    links: &Links,
     wish: &mut GapBytes,
 )
-    requires { ⌜ gaps ≤ gapsMost ⌝ }
+    requires { ⌜ (gaps ≤ gapsMost) × (e .0 < gaps) ⌝ }
     ensures { λ _. ⌜ Wished gaps (before wish) (after wish) ⌝ }
 {
     let k = e.0;
-    if gaps <= k {
-        return;
-    }
-    if is_opposed(e, left, right, distance, end, next) {
+    if is_opposed(e, left, right, distance, links) {
         wish[k] = 1;
     }
-}
-
-// Opens label x as the first, if it is new. Gives how many labels are open.
-fn begin(x: Label, end: &Ends, next: &Circles, walk: &mut Walk) -> usize
-    ensures { λ r. ⌜ r ≤ 1 ⌝ }
-{
-    let i = x.0 % ROOM;
-    if walk[STATE + i] == 0 {
-        open(Label(i), 1, end, next, walk);
-        return 1;
-    }
-    0
-}
-
-// Brings the labels in order by the search.
-fn search(
-    labels: usize,
-    gaps: usize,
-    left: &GapIndices,
-    right: &GapIndices,
-    distance: &GapInts,
-    end: &Ends,
-    next: &Circles,
-    walk: &mut Walk,
-    wish: &mut GapBytes,
-) -> bool
-    requires { ⌜ (labels ≤ labelsMost) × (gaps ≤ gapsMost) ⌝ }
-    ensures { λ _. ⌜ Wished gaps (before wish) (after wish) ⌝ }
-{
-    let mut straight = true;
-    let mut opened: usize = 0;
-    let mut done: usize = 0;
-    let mut i: usize = 0;
-    let mut turns: usize = 0;
-    while turns < STEPS {
-        if opened == 0 {
-            if labels <= i {
-                return straight;
-            }
-            opened = begin(Label(i), end, next, walk);
-            i += 1;
-        } else {
-            let came = step(opened, done, left, end, next, walk);
-            match came {
-                Outcome::Opened => opened += 1,
-                Outcome::Done => {
-                    opened -= 1;
-                    done += 1;
-                }
-                Outcome::Passed => {}
-                Outcome::Ring(e) => {
-                    straight = false;
-                    wish_opposed(gaps, e, left, right, distance, end, next, wish);
-                }
-            }
-        }
-        turns += 1;
-    }
-    straight
 }
 
 // Whether every gap goes from a label to a later one: then the labels are in order as they are numbered.
@@ -235,17 +229,6 @@ fn is_rising(gaps: usize, left: &GapIndices, right: &GapIndices) -> bool
     true
 }
 
-// The labels are done as they are numbered.
-fn as_numbered(labels: usize, walk: &mut Walk)
-    requires { ⌜ labels ≤ labelsMost ⌝ }
-{
-    let mut i: usize = 0;
-    while i < labels {
-        walk[DONE + i] = narrow(i);
-        i += 1;
-    }
-}
-
 // Brings the labels in order, without a search where none is needed. Wishes gaps that opposite gaps make exact. Says whether no gap
 // closes a ring.
 pub fn in_order(
@@ -254,17 +237,38 @@ pub fn in_order(
     left: &GapIndices,
     right: &GapIndices,
     distance: &GapInts,
-    end: &Ends,
-    next: &Circles,
-    walk: &mut Walk,
+    links: &mut Links,
     wish: &mut GapBytes,
 ) -> bool
     requires { ⌜ (labels ≤ labelsMost) × (gaps ≤ gapsMost) ⌝ }
     ensures { λ _. ⌜ Wished gaps (before wish) (after wish) ⌝ }
 {
+    let mut straight = true;
     if is_rising(gaps, left, right) {
-        as_numbered(labels, walk);
-        return true;
+        return straight;
     }
-    search(labels, gaps, left, right, distance, end, next, walk, wish)
+    let mut opened: usize = 0;
+    let mut done: usize = 0;
+    let mut i: usize = 0;
+    let mut turns: usize = 0;
+    while turns < STEPS {
+        let x = Label(i);
+        if opened == 0 {
+            if labels <= i {
+                return straight;
+            }
+            i += 1;
+        }
+        let step = step_of(x, opened, done, left, links);
+        keep(step.label, step.look, step.at, links);
+        opened = step.opened;
+        done = step.done;
+        let ring = step.ring;
+        if ring.0 < gaps {
+            straight = false;
+            wish_opposed(gaps, ring, left, right, distance, links, wish);
+        }
+        turns += 1;
+    }
+    straight
 }

@@ -5,22 +5,28 @@ use Rattle.core_joining.proofs.circles.enclose_all.Statement.{statement
 use Rattle.core_joining.proofs.circles.enclose_all.Tie as tie
 
 abbrev Inv-loop : tie.InvT-loop
-Inv-loop gaps right end₀ next₀ e₀ end next e = e ≤ gaps
+Inv-loop gaps right links₀ e₀ links e = e ≤ gaps
 
 abbrev μ-loop : tie.MeasureT-loop
-μ-loop gaps right end₀ next₀ e₀ end next e = gaps - e
+μ-loop gaps right links₀ e₀ links e = gaps - e
 
 loop-holds : tie.Need-loop-holds Inv-loop μ-loop
 loop-holds c = omega arith
 
-mul-t9 : tie.Need-mul-t9 Inv-loop μ-loop
-mul-t9 c = omega arith
+narrow-requires : tie.Need-narrow-requires Inv-loop μ-loop
+narrow-requires c κs = omega arith
 
-element-copy-out-t12 : tie.Need-element-copy-out-t12 Inv-loop μ-loop
-element-copy-out-t12 c = omega arith
+add-links : tie.Need-add-links Inv-loop μ-loop
+add-links c = omega arith
 
-enclose-requires : tie.Need-enclose-requires Inv-loop μ-loop
-enclose-requires c κs = tt
+element-write-links : tie.Need-element-write-links Inv-loop μ-loop
+element-write-links c = omega arith
+
+end-of-requires : tie.Need-end-of-requires Inv-loop μ-loop
+end-of-requires c κs = omega arith
+
+attach-requires : tie.Need-attach-requires Inv-loop μ-loop
+attach-requires c κs = omega arith
 
 add-e : tie.Need-add-e Inv-loop μ-loop
 add-e c = omega arith
@@ -32,7 +38,7 @@ loop-again : tie.Need-loop-again Inv-loop μ-loop
 loop-again c = omega arith
 
 returns : tie.Need-returns Inv-loop μ-loop
-returns c = (tt, tt)
+returns c = tt
 
 pub enclose-all-spec : {M : Type 1} → statement M
 enclose-all-spec =
@@ -41,9 +47,11 @@ enclose-all-spec =
     Inv-loop
     μ-loop
     loop-holds
-    mul-t9
-    element-copy-out-t12
-    enclose-requires
+    narrow-requires
+    add-links
+    element-write-links
+    end-of-requires
+    attach-requires
     add-e
     loop-less
     loop-again

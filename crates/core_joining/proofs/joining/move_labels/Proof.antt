@@ -5,58 +5,28 @@ use Rattle.core_joining.proofs.joining.move_labels.Statement.{statement
 use Rattle.core_joining.proofs.joining.move_labels.Tie as tie
 
 abbrev Inv-loop : tie.InvT-loop
-Inv-loop by links₀ spots₀ new b count i₀ k₀ links spots i k = (k ≤ count) × (i < 64)
+Inv-loop to by links₀ spots₀ count i₀ k₀ links spots i k = (k ≤ count) × (i < 64)
 
 abbrev μ-loop : tie.MeasureT-loop
-μ-loop by links₀ spots₀ new b count i₀ k₀ links spots i k = count - k
+μ-loop to by links₀ spots₀ count i₀ k₀ links spots i k = count - k
 
-wide-requires : tie.Need-wide-requires Inv-loop μ-loop
-wide-requires c κs = tt
+size-of-requires : tie.Need-size-of-requires Inv-loop μ-loop
+size-of-requires c κs = tt
 
-add-wide : tie.Need-add-wide Inv-loop μ-loop
-add-wide c = omega arith
-
-element-copy-out-wide : tie.Need-element-copy-out-wide Inv-loop μ-loop
-element-copy-out-wide c = omega arith
-
-wide-requires-2 : tie.Need-wide-requires-2 Inv-loop μ-loop
-wide-requires-2 c κs = tt
+entry-requires : tie.Need-entry-requires Inv-loop μ-loop
+entry-requires c κs = tt
 
 loop-holds : tie.Need-loop-holds Inv-loop μ-loop
 loop-holds c = omega arith
 
-add-links : tie.Need-add-links Inv-loop μ-loop
-add-links c = omega arith
+move-label-requires : tie.Need-move-label-requires Inv-loop μ-loop
+move-label-requires c κs = tt
 
-element-write-links : tie.Need-element-write-links Inv-loop μ-loop
-element-write-links c = omega arith
+add-link : tie.Need-add-link Inv-loop μ-loop
+add-link c = omega arith
 
-add-spots : tie.Need-add-spots Inv-loop μ-loop
-add-spots c = omega arith
-
-mul-spots : tie.Need-mul-spots Inv-loop μ-loop
-mul-spots c = omega arith
-
-element-copy-out-spots : tie.Need-element-copy-out-spots Inv-loop μ-loop
-element-copy-out-spots c = omega arith
-
-add-spots-2 : tie.Need-add-spots-2 Inv-loop μ-loop
-add-spots-2 c = omega arith
-
-mul-spots-2 : tie.Need-mul-spots-2 Inv-loop μ-loop
-mul-spots-2 c = omega arith
-
-element-write-spots : tie.Need-element-write-spots Inv-loop μ-loop
-element-write-spots c = omega arith
-
-add-wide-2 : tie.Need-add-wide-2 Inv-loop μ-loop
-add-wide-2 c = omega arith
-
-element-copy-out-wide-2 : tie.Need-element-copy-out-wide-2 Inv-loop μ-loop
-element-copy-out-wide-2 c = omega arith
-
-wide-requires-3 : tie.Need-wide-requires-3 Inv-loop μ-loop
-wide-requires-3 c κs = tt
+link-requires : tie.Need-link-requires Inv-loop μ-loop
+link-requires c κs = omega arith
 
 add-k : tie.Need-add-k Inv-loop μ-loop
 add-k c = omega arith
@@ -76,22 +46,12 @@ move-labels-spec =
     (tie.spec
     Inv-loop
     μ-loop
-    wide-requires
-    add-wide
-    element-copy-out-wide
-    wide-requires-2
+    size-of-requires
+    entry-requires
     loop-holds
-    add-links
-    element-write-links
-    add-spots
-    mul-spots
-    element-copy-out-spots
-    add-spots-2
-    mul-spots-2
-    element-write-spots
-    add-wide-2
-    element-copy-out-wide-2
-    wide-requires-3
+    move-label-requires
+    add-link
+    link-requires
     add-k
     loop-less
     loop-again

@@ -1,17 +1,16 @@
 -- `core_merge::merge::drain` meets its contract, and ends: it merges at most once for each label. The loop's invariant: gaps were wished alone.
 use Prim.Native.Nat.{_≤_, _-_}
-use borrow.Author.Needs.{needs}
+use native.Mathlib.Omega.{arith}
 use Rattle.core_guess.specs.Guess.{Wished}
 use Rattle.core_guess.proofs.Wishing.{wished-none, wished-one, wished-then}
-use native.Mathlib.Omega.{arith}
 use Rattle.core_merge.proofs.merge.drain.Statement.{statement}
 use Rattle.core_merge.proofs.merge.drain.Tie as tie
 
 abbrev Inv-loop : tie.InvT-loop
-Inv-loop gaps left right distance kind links₀ spots₀ end₀ next₀ wish₀ b₀ turns₀ links spots end next wish b turns = (turns ≤ 48) × Wished gaps wish₀ wish
+Inv-loop gaps left right distance kind links₀ spots₀ wish₀ b₀ turns₀ links spots wish b turns = (turns ≤ 48) × Wished gaps wish₀ wish
 
 abbrev μ-loop : tie.MeasureT-loop
-μ-loop gaps left right distance kind links₀ spots₀ end₀ next₀ wish₀ b₀ turns₀ links spots end next wish b turns = 48 - turns
+μ-loop gaps left right distance kind links₀ spots₀ wish₀ b₀ turns₀ links spots wish b turns = 48 - turns
 
 block-of-requires : tie.Need-block-of-requires Inv-loop μ-loop
 block-of-requires c κs = tt
@@ -22,17 +21,8 @@ loop-holds c = (omega arith, wished-none)
 widest-requires : tie.Need-widest-requires Inv-loop μ-loop
 widest-requires c κs = tt
 
-enum-known-lead : tie.Need-enum-known-lead Inv-loop μ-loop
-enum-known-lead c = search needs
-
-enum-told : tie.Need-enum-told Inv-loop μ-loop
-enum-told c = search needs
-
 returns : tie.Need-returns Inv-loop μ-loop
-returns c = c .before .before .before .before .before .before .before .before .loop .inv .1
-
-returns-2 : tie.Need-returns-2 Inv-loop μ-loop
-returns-2 c = c .before .before .before .before .before .before .before .before .before .before .loop .inv .1
+returns c = c .before .before .before .before .before .loop .inv .1
 
 close-requires : tie.Need-close-requires Inv-loop μ-loop
 close-requires c κs = omega arith
@@ -47,10 +37,10 @@ loop-less : tie.Need-loop-less Inv-loop μ-loop
 loop-less c = omega arith
 
 loop-again : tie.Need-loop-again Inv-loop μ-loop
-loop-again c = (omega arith, wished-then (c .before .before .before .before .before .before .before .before .before .before .before .before .before .before .before .loop .inv .1) (wished-one _ _ (c .before .before .before .before .before .if1 .left) (omega arith)))
+loop-again c = (omega arith, wished-then (c .before .before .before .before .before .before .before .before .loop .inv .1) (wished-one _ _ (c .before .before .before .if1 .left) (omega arith)))
 
-returns-3 : tie.Need-returns-3 Inv-loop μ-loop
-returns-3 c = c .before .loop .inv .1
+returns-2 : tie.Need-returns-2 Inv-loop μ-loop
+returns-2 c = c .before .loop .inv .1
 
 pub drain-spec : {M : Type 1} → statement M
 drain-spec =
@@ -61,13 +51,10 @@ drain-spec =
     block-of-requires
     loop-holds
     widest-requires
-    enum-known-lead
-    enum-told
     returns
-    returns-2
     close-requires
     element-write-wish
     add-turns
     loop-less
     loop-again
-    returns-3)
+    returns-2)

@@ -1,27 +1,74 @@
--- `core_order::order::in_order` meets its contract.
-use borrow.Author.Needs.{needs}
-use Rattle.core_guess.proofs.Wishing.{wished-none}
+-- `core_order::order::in_order` meets its contract, and ends: its steps are counted. The loop's invariant: gaps were wished alone.
+use Prim.Native.Nat.{_≤_, _-_}
+use native.Mathlib.Omega.{arith}
+use mathlib.Core.Logic.{⊎-elim}
+use Rattle.core_guess.specs.Guess.{Wished}
+use Rattle.core_guess.proofs.Wishing.{wished-none, wished-then}
 use Rattle.core_order.proofs.order.in_order.Statement.{statement}
 use Rattle.core_order.proofs.order.in_order.Tie as tie
-use Rattle.core_order.proofs.order.as_numbered.Reads as as-numbered-reads
-use Rattle.core_order.proofs.order.is_rising.Reads as is-rising-reads
-use Rattle.core_order.proofs.order.search.Reads as search-reads
 
-is-rising-requires : tie.Need-is-rising-requires
-is-rising-requires c κs = search needs
+abbrev Inv-loop : tie.InvT-loop
+Inv-loop labels gaps left right distance links₀ wish₀ straight₀ opened₀ done₀ i₀ turns₀ links wish straight opened done i turns = (turns ≤ 512) × (i ≤ turns) × Wished gaps wish₀ wish
 
-as-numbered-requires : tie.Need-as-numbered-requires
-as-numbered-requires c κs = search needs
+abbrev μ-loop : tie.MeasureT-loop
+μ-loop labels gaps left right distance links₀ wish₀ straight₀ opened₀ done₀ i₀ turns₀ links wish straight opened done i turns = 512 - turns
 
-returns : tie.Need-returns
+is-rising-requires : tie.Need-is-rising-requires Inv-loop μ-loop
+is-rising-requires c κs = omega arith
+
+returns : tie.Need-returns Inv-loop μ-loop
 returns c = wished-none
 
-search-requires : tie.Need-search-requires
-search-requires c κs = search needs
+loop-holds : tie.Need-loop-holds Inv-loop μ-loop
+loop-holds c = (omega arith, omega arith, wished-none)
 
-returns-2 : tie.Need-returns-2
-returns-2 c = search needs
+returns-2 : tie.Need-returns-2 Inv-loop μ-loop
+returns-2 c = c .before .before .before .loop .inv .2
+
+add-i : tie.Need-add-i Inv-loop μ-loop
+add-i c = omega arith
+
+step-of-requires : tie.Need-step-of-requires Inv-loop μ-loop
+step-of-requires c κs = tt
+
+keep-requires : tie.Need-keep-requires Inv-loop μ-loop
+keep-requires c κs = omega arith
+
+wish-opposed-requires : tie.Need-wish-opposed-requires Inv-loop μ-loop
+wish-opposed-requires c κs = omega arith
+
+add-turns : tie.Need-add-turns Inv-loop μ-loop
+add-turns c = omega arith
+
+loop-less : tie.Need-loop-less Inv-loop μ-loop
+loop-less c = omega arith
+
+loop-again : tie.Need-loop-again Inv-loop μ-loop
+loop-again c =
+    let so-far = c .before .before .before .before .before .before .before .before .before .loop .inv .2 in (
+      omega arith,
+      ⊎-elim (λ w. omega arith) (λ w. omega arith) (c .before .before .before .before .before .before .before .if2 .came),
+      ⊎-elim (λ w. rw (w .4) (wished-then so-far (w .3 .ensures))) (λ w. rw (w .1) so-far) (c .if4 .came),
+    )
+
+returns-3 : tie.Need-returns-3 Inv-loop μ-loop
+returns-3 c = c .before .loop .inv .2
 
 pub in-order-spec : {M : Type 1} → statement M
 in-order-spec =
-    tie.close (tie.spec is-rising-requires as-numbered-requires returns search-requires returns-2)
+    tie.close
+    (tie.spec
+    Inv-loop
+    μ-loop
+    is-rising-requires
+    returns
+    loop-holds
+    returns-2
+    add-i
+    step-of-requires
+    keep-requires
+    wish-opposed-requires
+    add-turns
+    loop-less
+    loop-again
+    returns-3)
