@@ -11,8 +11,10 @@ use ground::bytes::narrow;
 use ground::limits::GAPS;
 use ground::limits::GapIndices;
 ghost use Prim.Native.Nat.{_≤_, _<_};
+ghost use Rattle.core_guess.specs.Guess.{Guessed};
 ghost use Rattle.core_joining.specs.Room.{linksMost};
 ghost use Rattle.ground.specs.Limits.{bytesMost, gapsMost};
+ghost use Rattle.ground.specs.Views.{after};
 
 // Swaps two entries. Where they tell what comes next in two circles, the circles become one.
 pub(crate) fn swap(a: usize, b: usize, links: &mut Links)
@@ -40,8 +42,9 @@ pub(crate) fn attach(e: GapNumber, x: Label, links: &mut Links)
 }
 
 // Puts every gap into the circle of the label on its right. No circle has a gap before.
-pub(crate) fn enclose_all(gaps: usize, right: &GapIndices, links: &mut Links)
+pub fn enclose_all(gaps: usize, right: &GapIndices, links: &mut Links)
     requires { ⌜ gaps ≤ gapsMost ⌝ }
+    ensures { λ _. ⌜ Guessed (after links) ⌝ }
 {
     let mut e: usize = 0;
     while e < gaps {

@@ -28,35 +28,44 @@ use ground::limits::GapIndices;
 use ground::limits::GapInts;
 ghost use Prim.Native.Nat.{_<_};
 ghost use Rattle.core_guess.specs.Guess.{Guessed};
-ghost use Rattle.ground.specs.Limits.{gapsMost};
+ghost use Rattle.ground.specs.Limits.{bytesMost, gapsMost};
 ghost use Rattle.ground.specs.Views.{after};
 
 // A size is kept as a byte.
 const SIZES: usize = 256;
 
-// Block from becomes part of block to, whose place and weight change. Its labels stand farther from that place by so much.
+// Block from becomes part of block to. Its labels stand farther from the place of block to by so much. What the two come to: place,
+// weight, and how many labels. And the gap where the walk round the gaps into block from ends.
 struct Joint {
     to: Block,
     from: Block,
     by: f64,
     place: f64,
     weight: f64,
+    size: usize,
+    last: GapNumber,
 }
 
 // Block from, whose labels stand farther from the place of block to by so much, joined to it.
-fn joined(to: Block, from: Block, by: f64, spots: &Spots) -> Joint {
+fn joined(to: Block, from: Block, by: f64, links: &Links, spots: &Spots) -> Joint
+    ensures { λ r. ⌜ (r .size < bytesMost) × (r .last .0 < bytesMost) ⌝ }
+{
     let a = entry(to);
     let b = entry(from);
     let one = spot(WEIGHT + a, spots);
     let two = spot(WEIGHT + b, spots);
     let weight = one + two;
     let place = (spot(PLACE + a, spots) * one + (spot(PLACE + b, spots) - by) * two) / weight;
+    let size = (size_of(to, links) + size_of(from, links)) % SIZES;
+    let last = GapNumber(link(END + b, links));
     Joint {
         to: to,
         from: from,
         by: by,
         place: place,
         weight: weight,
+        size: size,
+        last: last,
     }
 }
 
@@ -70,6 +79,7 @@ fn joint_of(
     spots: &Spots,
 ) -> Joint
     requires { ⌜ e .0 < gapsMost ⌝ }
+    ensures { λ r. ⌜ (r .size < bytesMost) × (r .last .0 < bytesMost) ⌝ }
 {
     let u = end_of(e, left);
     let v = end_of(e, right);
@@ -77,9 +87,9 @@ fn joint_of(
     let b = block_of(v, links);
     let by = offset_of(u, spots) + distance_of(e, distance) - offset_of(v, spots);
     if size_of(a, links) < size_of(b, links) {
-        return joined(b, a, -by, spots);
+        return joined(b, a, -by, links, spots);
     }
-    joined(a, b, by, spots)
+    joined(a, b, by, links, spots)
 }
 
 // Label x goes to a block, whose place it stands farther from.
@@ -103,17 +113,17 @@ fn move_labels(to: Block, from: Block, by: f64, links: &mut Links, spots: &mut S
 }
 
 // The circles of the labels of two blocks become one, and the circles of the gaps into them.
-fn join_circles(to: Block, from: Block, links: &mut Links) {
-    let a = entry(to);
-    let b = entry(from);
-    let size = size_of(to, links) + size_of(from, links);
-    links[SIZE + a] = narrow(size % SIZES);
+fn join_circles(joint: Joint, links: &mut Links)
+    requires { ⌜ (joint .size < bytesMost) × (joint .last .0 < bytesMost) ⌝ }
+{
+    let a = entry(joint.to);
+    let b = entry(joint.from);
+    links[SIZE + a] = narrow(joint.size);
     swap(NEXT + a, NEXT + b, links);
-    let last = link(END + b, links);
-    attach(GapNumber(last), Label(a), links);
+    attach(joint.last, Label(a), links);
 }
 
-// The blocks at the ends of gap e become one, in which the gap is tight. Gives the block.
+// The blocks at the ends of gap e become one, in which the gap is tight.
 pub fn close(
     e: GapNumber,
     left: &GapIndices,
@@ -121,15 +131,14 @@ pub fn close(
     distance: &GapInts,
     links: &mut Links,
     spots: &mut Spots,
-) -> Block
+)
     requires { ⌜ e .0 < gapsMost ⌝ }
-    ensures { λ r. ⌜ Guessed (after links) × Guessed (after spots) × Guessed r ⌝ }
+    ensures { λ _. ⌜ Guessed (after links) × Guessed (after spots) ⌝ }
 {
     let joint = joint_of(e, left, right, distance, links, spots);
     let a = entry(joint.to);
     set_spot(PLACE + a, joint.place, spots);
     set_spot(WEIGHT + a, joint.weight, spots);
     move_labels(joint.to, joint.from, joint.by, links, spots);
-    join_circles(joint.to, joint.from, links);
-    joint.to
+    join_circles(joint, links);
 }

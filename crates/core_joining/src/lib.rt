@@ -2,5 +2,4 @@
 // one. In doubles, and nobody trusts it.
 pub mod circles;
 pub mod joining;
-pub mod start;
 pub mod state;

@@ -12,6 +12,7 @@ ghost use Prim.Native.Nat.{_<_};
 ghost use Rattle.core_guess.specs.Guess.{Guessed};
 ghost use Rattle.core_joining.specs.Room.{linksMost, room, spotsMost};
 ghost use Rattle.ground.specs.Limits.{bytesMost, gapsMost};
+ghost use Rattle.ground.specs.Views.{after};
 
 // Sections of bytes. The block of a label; the next label of its block, in a circle; and how many labels a block has.
 pub const BLOCK: usize = 0;
@@ -94,8 +95,9 @@ pub(crate) fn spot(at: usize, spots: &Spots) -> f64
 }
 
 // Keeps a double.
-pub(crate) fn set_spot(at: usize, value: f64, spots: &mut Spots)
+pub fn set_spot(at: usize, value: f64, spots: &mut Spots)
     requires { ⌜ at < spotsMost ⌝ }
+    ensures { λ _. ⌜ Guessed (after spots) ⌝ }
 {
     spots[at] = value;
 }

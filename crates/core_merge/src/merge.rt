@@ -3,7 +3,6 @@
 use core_guess::doubles::TOLERANCE;
 use core_guess::room::NO_GAP;
 use core_joining::joining::close;
-use core_joining::start::start;
 use core_joining::state::CIRCLE;
 use core_joining::state::DONE;
 use core_joining::state::END;
@@ -18,6 +17,7 @@ use core_joining::state::entry;
 use core_joining::state::link;
 use core_joining::state::place_of;
 use core_order::order::in_order;
+use core_order::start::start;
 use ground::Block;
 use ground::GapNumber;
 use ground::Label;
@@ -85,9 +85,10 @@ fn take_out(e: GapNumber, stays: GapNumber, b: Block, links: &mut Links)
     }
 }
 
-// The gap into block b from another one that lacks most, or GAPS. Gaps within the block are taken out of its circle on the way.
+// The gap into the block of label x from another one that lacks most, or GAPS. Gaps within the block are taken out of its circle on
+// the way.
 fn widest(
-    b: Block,
+    x: Label,
     left: &GapIndices,
     right: &GapIndices,
     distance: &GapInts,
@@ -95,6 +96,7 @@ fn widest(
     links: &mut Links,
     spots: &Spots,
 ) -> GapNumber {
+    let b = block_of(x, links);
     let last = link(END + entry(b), links);
     let mut most = TOLERANCE;
     let mut found = GAPS;
@@ -138,17 +140,14 @@ fn drain(
     requires { ⌜ gaps ≤ gapsMost ⌝ }
     ensures { λ _. ⌜ Wished gaps (before wish) (after wish) ⌝ }
 {
-    let start = block_of(x, links);
-    let mut b = start.0;
     let mut turns: usize = 0;
     while turns < LABELS {
-        let lead = widest(Block(b), left, right, distance, kind, links, spots);
+        let lead = widest(x, left, right, distance, kind, links, spots);
         let k = lead.0;
         if gaps <= k {
             return;
         }
-        let merged = close(lead, left, right, distance, links, spots);
-        b = merged.0;
+        close(lead, left, right, distance, links, spots);
         wish[k] = 1;
         turns += 1;
     }

@@ -93,6 +93,30 @@ fn beginning(x: Label, done: usize, links: &Links) -> Step
     }
 }
 
+// Label x, the last open one, is done.
+fn finishing(x: Label, opened: usize, done: usize) -> Step
+    requires { ⌜ 1 ≤ opened ⌝ }
+    ensures { λ r. ⌜ (r .look < bytesMost) × (r .at < linksMost) ⌝ }
+{
+    let n = done % ROOM;
+    Step {
+        label: x,
+        look: IS_DONE,
+        at: DONE + n,
+        opened: opened - 1,
+        done: n + 1,
+        ring: GapNumber(GAPS),
+    }
+}
+
+// The gap that closes a ring: gap e from a label that is open, or GAPS if that is done.
+fn ring_of(e: GapNumber, look: usize) -> GapNumber {
+    if look == IS_DONE {
+        return GapNumber(GAPS);
+    }
+    e
+}
+
 // Goes on at the last open label, or where none is open at label x.
 fn step_of(x: Label, opened: usize, done: usize, left: &GapIndices, links: &Links) -> Step
     ensures { λ r. ⌜ (r .look < bytesMost) × (r .at < linksMost) ⌝ }
@@ -102,40 +126,24 @@ fn step_of(x: Label, opened: usize, done: usize, left: &GapIndices, links: &Link
     }
     let at = opened % ROOM;
     let y = Label(link(OPEN + at, links));
-    let e = look_of(y, links);
-    if GAPS <= e {
-        let n = done % ROOM;
-        return Step {
-            label: y,
-            look: IS_DONE,
-            at: DONE + n,
-            opened: opened - 1,
-            done: n + 1,
-            ring: GapNumber(GAPS),
-        };
+    let k = look_of(y, links);
+    if GAPS <= k {
+        return finishing(y, opened, done);
     }
-    let state = look_of(end_of(GapNumber(e), left), links);
+    let e = GapNumber(k);
+    let u = end_of(e, left);
+    let state = look_of(u, links);
     if state == IS_NEW {
-        return opening(end_of(GapNumber(e), left), at + 1, done, links);
+        return opening(u, at + 1, done, links);
     }
-    let look = look_after(GapNumber(e), y, links);
-    if state == IS_DONE {
-        return Step {
-            label: y,
-            look: look,
-            at: OPEN + at,
-            opened: opened,
-            done: done,
-            ring: GapNumber(GAPS),
-        };
-    }
+    let look = look_after(e, y, links);
     Step {
         label: y,
         look: look,
         at: OPEN + at,
         opened: opened,
         done: done,
-        ring: GapNumber(e),
+        ring: ring_of(e, state),
     }
 }
 
@@ -221,7 +229,9 @@ fn is_rising(gaps: usize, left: &GapIndices, right: &GapIndices) -> bool
 {
     let mut e: usize = 0;
     while e < gaps {
-        if right[e] <= left[e] {
+        let u = end_of(GapNumber(e), left);
+        let v = end_of(GapNumber(e), right);
+        if v.0 <= u.0 {
             return false;
         }
         e += 1;

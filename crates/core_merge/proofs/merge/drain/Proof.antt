@@ -7,13 +7,10 @@ use Rattle.core_merge.proofs.merge.drain.Statement.{statement}
 use Rattle.core_merge.proofs.merge.drain.Tie as tie
 
 abbrev Inv-loop : tie.InvT-loop
-Inv-loop gaps left right distance kind links₀ spots₀ wish₀ b₀ turns₀ links spots wish b turns = (turns ≤ 48) × Wished gaps wish₀ wish
+Inv-loop gaps x left right distance kind links₀ spots₀ wish₀ turns₀ links spots wish turns = (turns ≤ 48) × Wished gaps wish₀ wish
 
 abbrev μ-loop : tie.MeasureT-loop
-μ-loop gaps left right distance kind links₀ spots₀ wish₀ b₀ turns₀ links spots wish b turns = 48 - turns
-
-block-of-requires : tie.Need-block-of-requires Inv-loop μ-loop
-block-of-requires c κs = tt
+μ-loop gaps x left right distance kind links₀ spots₀ wish₀ turns₀ links spots wish turns = 48 - turns
 
 loop-holds : tie.Need-loop-holds Inv-loop μ-loop
 loop-holds c = (omega arith, wished-none)
@@ -48,7 +45,6 @@ drain-spec =
     (tie.spec
     Inv-loop
     μ-loop
-    block-of-requires
     loop-holds
     widest-requires
     returns

@@ -6,10 +6,13 @@ use Rattle.core_merge.proofs.merge.widest.Statement.{statement}
 use Rattle.core_merge.proofs.merge.widest.Tie as tie
 
 abbrev Inv-loop : tie.InvT-loop
-Inv-loop b left right distance kind links₀ spots last most₀ found₀ stays₀ turns₀ links most found stays turns = (turns ≤ 192) × (stays < 256)
+Inv-loop left right distance kind links₀ spots b last most₀ found₀ stays₀ turns₀ links most found stays turns = (turns ≤ 192) × (stays < 256)
 
 abbrev μ-loop : tie.MeasureT-loop
-μ-loop b left right distance kind links₀ spots last most₀ found₀ stays₀ turns₀ links most found stays turns = 192 - turns
+μ-loop left right distance kind links₀ spots b last most₀ found₀ stays₀ turns₀ links most found stays turns = 192 - turns
+
+block-of-requires : tie.Need-block-of-requires Inv-loop μ-loop
+block-of-requires c κs = tt
 
 entry-requires : tie.Need-entry-requires Inv-loop μ-loop
 entry-requires c κs = tt
@@ -62,6 +65,7 @@ widest-spec =
     (tie.spec
     Inv-loop
     μ-loop
+    block-of-requires
     entry-requires
     add-link
     link-requires
