@@ -42,24 +42,32 @@ fn is_from(e: GapNumber, b: Block, left: &GapIndices, links: &Links) -> bool
     a.0 == b.0
 }
 
-// How much gap e lacks. A gap of no kind lacks nothing.
-fn lack_of(
+// A gap that lacks, and how much; GAPS where none does.
+struct Lead {
+    gap: GapNumber,
+    lack: f64,
+}
+
+// Gap e if it lacks more than the lead, else the lead. A gap of no kind is passed over.
+fn wider(
     e: GapNumber,
+    lead: Lead,
     left: &GapIndices,
     right: &GapIndices,
     distance: &GapInts,
     kind: &GapBytes,
     links: &Links,
     spots: &Spots,
-) -> f64
+) -> Lead
     requires { ⌜ e .0 < gapsMost ⌝ }
 {
     let k = e.0;
-    if EXACTLY < kind[k] {
-        return 0.0;
-    }
     let from = place_of(end_of(e, left), links, spots);
-    from + distance_of(e, distance) - place_of(end_of(e, right), links, spots)
+    let lack = from + distance_of(e, distance) - place_of(end_of(e, right), links, spots);
+    if lead.lack < lack && kind[k] <= EXACTLY {
+        return Lead { gap: e, lack: lack };
+    }
+    lead
 }
 
 // Where a circle ends whose end was taken out: at the last gap that stays, if one does.
@@ -98,31 +106,38 @@ fn widest(
 ) -> GapNumber {
     let b = block_of(x, links);
     let last = link(END + entry(b), links);
-    let mut most = TOLERANCE;
-    let mut found = GAPS;
+    let mut lead = Lead {
+        gap: GapNumber(GAPS),
+        lack: TOLERANCE,
+    };
     let mut stays = last;
     let mut turns: usize = 0;
     while turns < GAPS {
         let e = link(CIRCLE + stays, links);
         if GAPS <= e {
-            return GapNumber(found);
+            return lead.gap;
         }
         if is_from(GapNumber(e), b, left, links) {
             take_out(GapNumber(e), GapNumber(stays), b, links);
         } else {
-            let lack = lack_of(GapNumber(e), left, right, distance, kind, links, spots);
-            if most < lack {
-                most = lack;
-                found = e;
-            }
+            lead = wider(
+                GapNumber(e),
+                lead,
+                left,
+                right,
+                distance,
+                kind,
+                links,
+                spots,
+            );
             stays = e;
         }
         if e == last {
-            return GapNumber(found);
+            return lead.gap;
         }
         turns += 1;
     }
-    GapNumber(found)
+    lead.gap
 }
 
 // Merges the block of label x with others while a gap into it lacks. Wishes those gaps.

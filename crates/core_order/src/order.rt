@@ -204,23 +204,29 @@ fn is_opposed(
     false
 }
 
-// Wishes gap e, which closes a ring, if an opposite gap makes it exact.
-fn wish_opposed(
+// Takes a step, and wishes the gap that closes a ring, if an opposite gap makes it exact. Gives how many gaps close a ring.
+fn take(
+    step: Step,
     gaps: usize,
-    e: GapNumber,
     left: &GapIndices,
     right: &GapIndices,
     distance: &GapInts,
-    links: &Links,
+    links: &mut Links,
     wish: &mut GapBytes,
-)
-    requires { ⌜ (gaps ≤ gapsMost) × (e .0 < gaps) ⌝ }
-    ensures { λ _. ⌜ Wished gaps (before wish) (after wish) ⌝ }
+) -> usize
+    requires { ⌜ (gaps ≤ gapsMost) × (step .look < bytesMost) × (step .at < linksMost) ⌝ }
+    ensures { λ r. ⌜ (r ≤ 1) × Wished gaps (before wish) (after wish) ⌝ }
 {
-    let k = e.0;
-    if is_opposed(e, left, right, distance, links) {
+    keep(step.label, step.look, step.at, links);
+    let ring = step.ring;
+    let k = ring.0;
+    if gaps <= k {
+        return 0;
+    }
+    if is_opposed(ring, left, right, distance, links) {
         wish[k] = 1;
     }
+    1
 }
 
 // Whether every gap goes from a label to a later one: then the labels are in order as they are numbered.
@@ -253,10 +259,10 @@ pub fn in_order(
     requires { ⌜ (labels ≤ labelsMost) × (gaps ≤ gapsMost) ⌝ }
     ensures { λ _. ⌜ Wished gaps (before wish) (after wish) ⌝ }
 {
-    let mut straight = true;
     if is_rising(gaps, left, right) {
-        return straight;
+        return true;
     }
+    let mut rings: usize = 0;
     let mut opened: usize = 0;
     let mut done: usize = 0;
     let mut i: usize = 0;
@@ -265,20 +271,15 @@ pub fn in_order(
         let x = Label(i);
         if opened == 0 {
             if labels <= i {
-                return straight;
+                return rings == 0;
             }
             i += 1;
         }
         let step = step_of(x, opened, done, left, links);
-        keep(step.label, step.look, step.at, links);
         opened = step.opened;
         done = step.done;
-        let ring = step.ring;
-        if ring.0 < gaps {
-            straight = false;
-            wish_opposed(gaps, ring, left, right, distance, links, wish);
-        }
+        rings += take(step, gaps, left, right, distance, links, wish);
         turns += 1;
     }
-    straight
+    rings == 0
 }

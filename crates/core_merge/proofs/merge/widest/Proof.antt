@@ -6,10 +6,10 @@ use Rattle.core_merge.proofs.merge.widest.Statement.{statement}
 use Rattle.core_merge.proofs.merge.widest.Tie as tie
 
 abbrev Inv-loop : tie.InvT-loop
-Inv-loop left right distance kind links₀ spots b last most₀ found₀ stays₀ turns₀ links most found stays turns = (turns ≤ 192) × (stays < 256)
+Inv-loop left right distance kind links₀ spots b last lead₀ stays₀ turns₀ links lead stays turns = (turns ≤ 192) × (stays < 256)
 
 abbrev μ-loop : tie.MeasureT-loop
-μ-loop left right distance kind links₀ spots b last most₀ found₀ stays₀ turns₀ links most found stays turns = 192 - turns
+μ-loop left right distance kind links₀ spots b last lead₀ stays₀ turns₀ links lead stays turns = 192 - turns
 
 block-of-requires : tie.Need-block-of-requires Inv-loop μ-loop
 block-of-requires c κs = tt
@@ -41,8 +41,8 @@ is-from-requires c κs = omega arith
 take-out-requires : tie.Need-take-out-requires Inv-loop μ-loop
 take-out-requires c κs = omega arith
 
-lack-of-requires : tie.Need-lack-of-requires Inv-loop μ-loop
-lack-of-requires c κs = omega arith
+wider-requires : tie.Need-wider-requires Inv-loop μ-loop
+wider-requires c κs = omega arith
 
 returns-2 : tie.Need-returns-2 Inv-loop μ-loop
 returns-2 c = tt
@@ -54,7 +54,7 @@ loop-less : tie.Need-loop-less Inv-loop μ-loop
 loop-less c = omega arith
 
 loop-again : tie.Need-loop-again Inv-loop μ-loop
-loop-again c = (omega arith, ⊎-elim (λ w. omega arith) (⊎-elim (λ w. omega arith) (λ w. omega arith)) (c .before .if2 .came))
+loop-again c = (omega arith, ⊎-elim (λ w. omega arith) (λ w. omega arith) (c .before .if2 .came))
 
 returns-3 : tie.Need-returns-3 Inv-loop μ-loop
 returns-3 c = tt
@@ -75,7 +75,7 @@ widest-spec =
     returns
     is-from-requires
     take-out-requires
-    lack-of-requires
+    wider-requires
     returns-2
     add-turns
     loop-less
