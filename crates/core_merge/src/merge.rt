@@ -106,6 +106,9 @@ fn widest(
 ) -> GapNumber {
     let b = block_of(x, links);
     let last = link(END + entry(b), links);
+    if GAPS <= last {
+        return GapNumber(GAPS);
+    }
     let mut lead = Lead {
         gap: GapNumber(GAPS),
         lack: TOLERANCE,

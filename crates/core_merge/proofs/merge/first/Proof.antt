@@ -25,7 +25,9 @@ sweep-requires-2 : tie.Need-sweep-requires-2
 sweep-requires-2 c κs = c .before .before .before .before .before .before .before .before .before .before .before .before .before .before .before .before .before .before .before .pre
 
 returns-3 : tie.Need-returns-3
-returns-3 c = wished-then (wished-then (c .before .before .before .before .before .before .before .before .before .before .before .before .before .in-order .ensures) (c .before .before .before .before .before .sweep .ensures)) (c .sweep2 .ensures)
+returns-3 c =
+    let ordered = c .before .before .before .before .before .before .before .before .before .before .before .before .before .in-order .ensures in
+    wished-then (wished-then ordered (c .before .before .before .before .before .sweep .ensures)) (c .sweep2 .ensures)
 
 pub first-spec : {M : Type 1} → statement M
 first-spec =

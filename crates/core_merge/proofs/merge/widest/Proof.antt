@@ -23,6 +23,9 @@ add-link c = omega arith
 link-requires : tie.Need-link-requires Inv-loop μ-loop
 link-requires c κs = omega arith
 
+returns : tie.Need-returns Inv-loop μ-loop
+returns c = tt
+
 loop-holds : tie.Need-loop-holds Inv-loop μ-loop
 loop-holds c = omega arith
 
@@ -32,8 +35,8 @@ add-link-2 c = omega arith
 link-requires-2 : tie.Need-link-requires-2 Inv-loop μ-loop
 link-requires-2 c κs = omega arith
 
-returns : tie.Need-returns Inv-loop μ-loop
-returns c = tt
+returns-2 : tie.Need-returns-2 Inv-loop μ-loop
+returns-2 c = tt
 
 is-from-requires : tie.Need-is-from-requires Inv-loop μ-loop
 is-from-requires c κs = omega arith
@@ -44,8 +47,8 @@ take-out-requires c κs = omega arith
 wider-requires : tie.Need-wider-requires Inv-loop μ-loop
 wider-requires c κs = omega arith
 
-returns-2 : tie.Need-returns-2 Inv-loop μ-loop
-returns-2 c = tt
+returns-3 : tie.Need-returns-3 Inv-loop μ-loop
+returns-3 c = tt
 
 add-turns : tie.Need-add-turns Inv-loop μ-loop
 add-turns c = omega arith
@@ -54,10 +57,10 @@ loop-less : tie.Need-loop-less Inv-loop μ-loop
 loop-less c = omega arith
 
 loop-again : tie.Need-loop-again Inv-loop μ-loop
-loop-again c = (omega arith, ⊎-elim (λ w. omega arith) (λ w. omega arith) (c .before .if2 .came))
+loop-again c = (omega arith, ⊎-elim (λ w. omega arith) (λ w. omega arith) (c .before .if3 .came))
 
-returns-3 : tie.Need-returns-3 Inv-loop μ-loop
-returns-3 c = tt
+returns-4 : tie.Need-returns-4 Inv-loop μ-loop
+returns-4 c = tt
 
 pub widest-spec : {M : Type 1} → statement M
 widest-spec =
@@ -69,15 +72,16 @@ widest-spec =
     entry-requires
     add-link
     link-requires
+    returns
     loop-holds
     add-link-2
     link-requires-2
-    returns
+    returns-2
     is-from-requires
     take-out-requires
     wider-requires
-    returns-2
+    returns-3
     add-turns
     loop-less
     loop-again
-    returns-3)
+    returns-4)
