@@ -1,5 +1,3 @@
-// The first guess: what is known of labels and blocks while they are merged, the gaps into each block, and two blocks that become
-// one. In doubles, and nobody trusts it.
-pub mod circles;
+// The first guess: the gap into a block that lacks most, and two blocks that become one. In doubles, and nobody trusts it.
 pub mod joining;
-pub mod state;
+pub mod widest;

@@ -1,18 +1,19 @@
 // The labels in the order of the gaps: the left label of a gap comes before the right one, but for gaps that close a ring. The
 // search goes depth first from a label to those on the left of the gaps into it.
 use core_guess::room::ROOM;
-use core_joining::state::CIRCLE;
-use core_joining::state::DONE;
-use core_joining::state::END;
-use core_joining::state::IS_DONE;
-use core_joining::state::IS_NEW;
-use core_joining::state::LOOK;
-use core_joining::state::Links;
-use core_joining::state::NONE;
-use core_joining::state::OPEN;
-use core_joining::state::distance_of;
-use core_joining::state::end_of;
-use core_joining::state::link;
+use core_links::state::CIRCLE;
+use core_links::state::DONE;
+use core_links::state::END;
+use core_links::state::Found;
+use core_links::state::IS_DONE;
+use core_links::state::IS_NEW;
+use core_links::state::LOOK;
+use core_links::state::Links;
+use core_links::state::NONE;
+use core_links::state::OPEN;
+use core_links::state::distance_of;
+use core_links::state::end_of;
+use core_links::state::link;
 use ground::GapNumber;
 use ground::Label;
 use ground::bytes::narrow;
@@ -22,7 +23,7 @@ use ground::limits::GapIndices;
 use ground::limits::GapInts;
 ghost use Prim.Native.Nat.{_≤_, _<_};
 ghost use Rattle.core_guess.specs.Guess.{Wished};
-ghost use Rattle.core_joining.specs.Room.{linksMost};
+ghost use Rattle.core_links.specs.Room.{linksMost};
 ghost use Rattle.ground.specs.Limits.{bytesMost, gapsMost, labelsMost};
 ghost use Rattle.ground.specs.Views.{after, before};
 
@@ -30,14 +31,14 @@ ghost use Rattle.ground.specs.Views.{after, before};
 const STEPS: usize = 512;
 
 // A step of the search: a label, what there is to look at of it then, and the entry in which the label is kept; how many labels are
-// open and done then; and the gap that closes a ring, or GAPS.
+// open and done then; and the gap that closes a ring, if one does.
 struct Step {
     label: Label,
     look: usize,
     at: usize,
     opened: usize,
     done: usize,
-    ring: GapNumber,
+    ring: Found,
 }
 
 // What there is to look at of label x.
@@ -71,7 +72,7 @@ fn opening(x: Label, at: usize, done: usize, links: &Links) -> Step
         at: OPEN + at % ROOM,
         opened: at,
         done: done,
-        ring: GapNumber(GAPS),
+        ring: Found::Nothing,
     }
 }
 
@@ -89,7 +90,7 @@ fn beginning(x: Label, done: usize, links: &Links) -> Step
         at: OPEN,
         opened: 0,
         done: done,
-        ring: GapNumber(GAPS),
+        ring: Found::Nothing,
     }
 }
 
@@ -105,16 +106,16 @@ fn finishing(x: Label, opened: usize, done: usize) -> Step
         at: DONE + n,
         opened: opened - 1,
         done: n + 1,
-        ring: GapNumber(GAPS),
+        ring: Found::Nothing,
     }
 }
 
-// The gap that closes a ring: gap e from a label that is open, or GAPS if that is done.
-fn ring_of(e: GapNumber, look: usize) -> GapNumber {
+// The gap that closes a ring: gap e from a label that is open, or none if that is done.
+fn ring_of(e: GapNumber, look: usize) -> Found {
     if look == IS_DONE {
-        return GapNumber(GAPS);
+        return Found::Nothing;
     }
-    e
+    Found::Gap(e)
 }
 
 // Goes on at the last open label, or where none is open at label x.
@@ -219,11 +220,14 @@ fn take(
 {
     keep(step.label, step.look, step.at, links);
     let ring = step.ring;
-    let k = ring.0;
+    let Found::Gap(e) = ring else {
+        return 0;
+    };
+    let k = e.0;
     if gaps <= k {
         return 0;
     }
-    if is_opposed(ring, left, right, distance, links) {
+    if is_opposed(e, left, right, distance, links) {
         wish[k] = 1;
     }
     1

@@ -10,7 +10,7 @@ use ground::limits::GapIndices;
 use ground::limits::GapInts;
 ghost use Prim.Native.Nat.{_<_};
 ghost use Rattle.core_guess.specs.Guess.{Guessed};
-ghost use Rattle.core_joining.specs.Room.{linksMost, room, spotsMost};
+ghost use Rattle.core_links.specs.Room.{linksMost, room, spotsMost};
 ghost use Rattle.ground.specs.Limits.{bytesMost, gapsMost};
 ghost use Rattle.ground.specs.Views.{after};
 
@@ -57,6 +57,12 @@ pub const SPOTS: usize = 192;
 
 pub type Spots = [f64; SPOTS];
 
+// A gap that was looked for, or none.
+pub enum Found {
+    Nothing,
+    Gap(GapNumber),
+}
+
 // An entry of a section of bytes.
 pub fn link(at: usize, links: &Links) -> usize
     requires { ⌜ at < linksMost ⌝ }
@@ -81,15 +87,16 @@ pub fn block_of(x: Label, links: &Links) -> Block
 }
 
 // How many labels a block has.
-pub(crate) fn size_of(b: Block, links: &Links) -> usize
+pub fn size_of(b: Block, links: &Links) -> usize
     ensures { λ r. ⌜ r < bytesMost ⌝ }
 {
     link(SIZE + entry(b), links)
 }
 
 // A double of a block or a label, from its section.
-pub(crate) fn spot(at: usize, spots: &Spots) -> f64
+pub fn spot(at: usize, spots: &Spots) -> f64
     requires { ⌜ at < spotsMost ⌝ }
+    ensures { λ r. ⌜ Guessed r ⌝ }
 {
     spots[at]
 }
@@ -103,7 +110,9 @@ pub fn set_spot(at: usize, value: f64, spots: &mut Spots)
 }
 
 // How far a label stands from the place of its block.
-pub(crate) fn offset_of(x: Label, spots: &Spots) -> f64 {
+pub fn offset_of(x: Label, spots: &Spots) -> f64
+    ensures { λ r. ⌜ Guessed r ⌝ }
+{
     spot(OFFSET + x.0 % ROOM, spots)
 }
 

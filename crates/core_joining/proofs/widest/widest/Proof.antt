@@ -1,9 +1,9 @@
--- `core_merge::merge::widest` is safe and ends: it looks at each gap at most once.
+-- `core_joining::widest::widest` is safe and ends: it looks at each gap at most once.
 use Prim.Native.Nat.{_≤_, _<_, _-_}
 use native.Mathlib.Omega.{arith}
 use mathlib.Core.Logic.{⊎-elim}
-use Rattle.core_merge.proofs.merge.widest.Statement.{statement}
-use Rattle.core_merge.proofs.merge.widest.Tie as tie
+use Rattle.core_joining.proofs.widest.widest.Statement.{statement}
+use Rattle.core_joining.proofs.widest.widest.Tie as tie
 
 abbrev Inv-loop : tie.InvT-loop
 Inv-loop left right distance kind links₀ spots b last lead₀ stays₀ turns₀ links lead stays turns = (turns ≤ 192) × (stays < 256)
@@ -24,7 +24,7 @@ link-requires : tie.Need-link-requires Inv-loop μ-loop
 link-requires c κs = omega arith
 
 returns : tie.Need-returns Inv-loop μ-loop
-returns c = tt
+returns c = (tt, tt)
 
 loop-holds : tie.Need-loop-holds Inv-loop μ-loop
 loop-holds c = omega arith
@@ -36,7 +36,7 @@ link-requires-2 : tie.Need-link-requires-2 Inv-loop μ-loop
 link-requires-2 c κs = omega arith
 
 returns-2 : tie.Need-returns-2 Inv-loop μ-loop
-returns-2 c = tt
+returns-2 c = (tt, tt)
 
 is-from-requires : tie.Need-is-from-requires Inv-loop μ-loop
 is-from-requires c κs = omega arith
@@ -48,7 +48,7 @@ wider-requires : tie.Need-wider-requires Inv-loop μ-loop
 wider-requires c κs = omega arith
 
 returns-3 : tie.Need-returns-3 Inv-loop μ-loop
-returns-3 c = tt
+returns-3 c = (tt, tt)
 
 add-turns : tie.Need-add-turns Inv-loop μ-loop
 add-turns c = omega arith
@@ -60,7 +60,7 @@ loop-again : tie.Need-loop-again Inv-loop μ-loop
 loop-again c = (omega arith, ⊎-elim (λ w. omega arith) (λ w. omega arith) (c .before .if3 .came))
 
 returns-4 : tie.Need-returns-4 Inv-loop μ-loop
-returns-4 c = tt
+returns-4 c = (tt, tt)
 
 pub widest-spec : {M : Type 1} → statement M
 widest-spec =

@@ -1,8 +1,8 @@
--- `core_order::start::place` is safe and ends.
+-- `core_links::start::place` is safe and ends.
 use Prim.Native.Nat.{_≤_, _-_}
 use native.Mathlib.Omega.{arith}
-use Rattle.core_order.proofs.start.place.Statement.{statement}
-use Rattle.core_order.proofs.start.place.Tie as tie
+use Rattle.core_links.proofs.start.place.Statement.{statement}
+use Rattle.core_links.proofs.start.place.Tie as tie
 
 abbrev Inv-loop : tie.InvT-loop
 Inv-loop labels wanted weight spots₀ i₀ spots i = i ≤ labels

@@ -12,13 +12,14 @@ use ground::limits::GAPS;
 use ground::limits::GapIndices;
 ghost use Prim.Native.Nat.{_≤_, _<_};
 ghost use Rattle.core_guess.specs.Guess.{Guessed};
-ghost use Rattle.core_joining.specs.Room.{linksMost};
+ghost use Rattle.core_links.specs.Room.{linksMost};
 ghost use Rattle.ground.specs.Limits.{bytesMost, gapsMost};
 ghost use Rattle.ground.specs.Views.{after};
 
 // Swaps two entries. Where they tell what comes next in two circles, the circles become one.
-pub(crate) fn swap(a: usize, b: usize, links: &mut Links)
+pub fn swap(a: usize, b: usize, links: &mut Links)
     requires { ⌜ (a < linksMost) × (b < linksMost) ⌝ }
+    ensures { λ _. ⌜ Guessed (after links) ⌝ }
 {
     let after = links[a];
     links[a] = links[b];
@@ -26,8 +27,9 @@ pub(crate) fn swap(a: usize, b: usize, links: &mut Links)
 }
 
 // The circle in which gap e is, if it is a gap, becomes part of that of the block with the number of label x.
-pub(crate) fn attach(e: GapNumber, x: Label, links: &mut Links)
+pub fn attach(e: GapNumber, x: Label, links: &mut Links)
     requires { ⌜ e .0 < bytesMost ⌝ }
+    ensures { λ _. ⌜ Guessed (after links) ⌝ }
 {
     let k = e.0;
     let v = x.0 % ROOM;

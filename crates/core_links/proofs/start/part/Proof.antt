@@ -1,8 +1,8 @@
--- `core_order::start::part` is safe and ends.
+-- `core_links::start::part` is safe and ends.
 use Prim.Native.Nat.{_≤_, _-_}
 use native.Mathlib.Omega.{arith}
-use Rattle.core_order.proofs.start.part.Statement.{statement}
-use Rattle.core_order.proofs.start.part.Tie as tie
+use Rattle.core_links.proofs.start.part.Statement.{statement}
+use Rattle.core_links.proofs.start.part.Tie as tie
 
 abbrev Inv-loop : tie.InvT-loop
 Inv-loop labels links₀ i₀ links i = i ≤ labels

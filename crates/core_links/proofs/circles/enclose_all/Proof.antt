@@ -1,8 +1,8 @@
--- `core_joining::circles::enclose_all` is safe and ends.
+-- `core_links::circles::enclose_all` is safe and ends.
 use Prim.Native.Nat.{_≤_, _-_}
 use native.Mathlib.Omega.{arith}
-use Rattle.core_joining.proofs.circles.enclose_all.Statement.{statement}
-use Rattle.core_joining.proofs.circles.enclose_all.Tie as tie
+use Rattle.core_links.proofs.circles.enclose_all.Statement.{statement}
+use Rattle.core_links.proofs.circles.enclose_all.Tie as tie
 
 abbrev Inv-loop : tie.InvT-loop
 Inv-loop gaps right links₀ e₀ links e = e ≤ gaps
