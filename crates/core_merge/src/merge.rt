@@ -123,8 +123,52 @@ fn close_exact(
     }
 }
 
-// The first proposal where no mark is carried. Where a gap closes a ring, a block may move right after the gaps into it were looked
-// at, so they are looked at again.
+// Merges blocks, exact gaps first. Unless the order is straight, which it is where no gap closes a ring, a block may move right after
+// the gaps into it were looked at, so they are looked at again.
+fn merge_all(
+    straight: bool,
+    labels: usize,
+    gaps: usize,
+    left: &GapIndices,
+    right: &GapIndices,
+    distance: &GapInts,
+    kind: &GapBytes,
+    links: &mut Links,
+    spots: &mut Spots,
+    wish: &mut GapBytes,
+)
+    requires { ⌜ (labels ≤ labelsMost) × (gaps ≤ gapsMost) ⌝ }
+    ensures { λ _. ⌜ Wished gaps (before wish) (after wish) ⌝ }
+{
+    close_exact(gaps, left, right, distance, kind, wish, links, spots);
+    sweep(
+        labels,
+        gaps,
+        left,
+        right,
+        distance,
+        kind,
+        links,
+        spots,
+        wish,
+    );
+    if straight {
+        return;
+    }
+    sweep(
+        labels,
+        gaps,
+        left,
+        right,
+        distance,
+        kind,
+        links,
+        spots,
+        wish,
+    );
+}
+
+// The first proposal where no mark is carried.
 pub fn first(
     labels: usize,
     gaps: usize,
@@ -146,31 +190,8 @@ pub fn first(
     let mut spots = [0.0f64; SPOTS];
     start(labels, gaps, right, wanted, weight, &mut links, &mut spots);
     let straight = in_order(labels, gaps, left, right, distance, &mut links, wish);
-    close_exact(
-        gaps,
-        left,
-        right,
-        distance,
-        kind,
-        wish,
-        &mut links,
-        &mut spots,
-    );
-    sweep(
-        labels,
-        gaps,
-        left,
-        right,
-        distance,
-        kind,
-        &mut links,
-        &mut spots,
-        wish,
-    );
-    if straight {
-        return;
-    }
-    sweep(
+    merge_all(
+        straight,
         labels,
         gaps,
         left,

@@ -7,7 +7,7 @@ use Rattle.core_guess.proofs.Wishing.{wished-none, wished-then}
 use borrow.Author.Needs.{needs}
 use Rattle.core_dual.proofs.dual.wish_all.Statement.{statement}
 use Rattle.core_dual.proofs.dual.wish_all.Tie as tie
-use Rattle.core_dual.proofs.dual.wish_one.Reads as wish-one-reads
+use Rattle.core_guess.proofs.wishes.wish_one.Reads as wish-one-reads
 use Rattle.core_trees.proofs.nodes.above.Reads as above-reads
 use Rattle.core_trees.proofs.nodes.gap_above.Reads as gap-above-reads
 

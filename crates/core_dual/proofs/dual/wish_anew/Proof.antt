@@ -4,7 +4,7 @@ use Rattle.core_guess.proofs.Wishing.{extended-yes}
 use Rattle.core_dual.proofs.dual.wish_anew.Statement.{statement}
 use Rattle.core_dual.proofs.dual.wish_anew.Tie as tie
 use Rattle.core_dual.proofs.dual.wish_all.Reads as wish-all-reads
-use Rattle.core_dual.proofs.dual.wish_none.Reads as wish-none-reads
+use Rattle.core_guess.proofs.wishes.wish_none.Reads as wish-none-reads
 
 wish-none-requires : tie.Need-wish-none-requires
 wish-none-requires c κs = search needs

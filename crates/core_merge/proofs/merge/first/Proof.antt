@@ -1,43 +1,27 @@
--- `core_merge::merge::first` meets its contract: what `in_order` and `sweep` wish is all that it wishes.
+-- `core_merge::merge::first` meets its contract: what `in_order` and `merge_all` wish is all that it wishes.
+use borrow.Author.Needs.{needs}
 use Rattle.core_guess.proofs.Wishing.{wished-none, wished-then}
 use Rattle.core_merge.proofs.merge.first.Statement.{statement}
 use Rattle.core_merge.proofs.merge.first.Tie as tie
+use Rattle.core_links.proofs.start.start.Reads as start-reads
+use Rattle.core_merge.proofs.merge.merge_all.Reads as merge-all-reads
+use Rattle.core_order.proofs.order.in_order.Reads as in-order-reads
 
 returns : tie.Need-returns
 returns c = wished-none
 
 start-requires : tie.Need-start-requires
-start-requires c κs = c .before .before .before .pre
+start-requires c κs = search needs
 
 in-order-requires : tie.Need-in-order-requires
-in-order-requires c κs = c .before .before .before .before .before .before .pre
+in-order-requires c κs = search needs
 
-close-exact-requires : tie.Need-close-exact-requires
-close-exact-requires c κs = c .before .before .before .before .before .before .before .before .before .before .pre .1
-
-sweep-requires : tie.Need-sweep-requires
-sweep-requires c κs = c .before .before .before .before .before .before .before .before .before .before .before .before .before .before .pre
+merge-all-requires : tie.Need-merge-all-requires
+merge-all-requires c κs = search needs
 
 returns-2 : tie.Need-returns-2
-returns-2 c = wished-then (c .before .before .before .before .before .before .before .before .before .in-order .ensures) (c .before .sweep .ensures)
-
-sweep-requires-2 : tie.Need-sweep-requires-2
-sweep-requires-2 c κs = c .before .before .before .before .before .before .before .before .before .before .before .before .before .before .before .before .before .before .before .pre
-
-returns-3 : tie.Need-returns-3
-returns-3 c =
-    let ordered = c .before .before .before .before .before .before .before .before .before .before .before .before .before .in-order .ensures in
-    wished-then (wished-then ordered (c .before .before .before .before .before .sweep .ensures)) (c .sweep2 .ensures)
+returns-2 c = wished-then (c .before .before .before .before .in-order .ensures) (c .merge-all .ensures)
 
 pub first-spec : {M : Type 1} → statement M
 first-spec =
-    tie.close
-    (tie.spec
-    returns
-    start-requires
-    in-order-requires
-    close-exact-requires
-    sweep-requires
-    returns-2
-    sweep-requires-2
-    returns-3)
+    tie.close (tie.spec returns start-requires in-order-requires merge-all-requires returns-2)

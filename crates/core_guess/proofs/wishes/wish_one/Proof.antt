@@ -1,8 +1,8 @@
--- `core_dual::dual::wish_one` meets its contract.
+-- `core_guess::wishes::wish_one` meets its contract.
 use native.Mathlib.Omega.{arith}
 use Rattle.core_guess.proofs.Wishing.{wished-none, wished-one}
-use Rattle.core_dual.proofs.dual.wish_one.Statement.{statement}
-use Rattle.core_dual.proofs.dual.wish_one.Tie as tie
+use Rattle.core_guess.proofs.wishes.wish_one.Statement.{statement}
+use Rattle.core_guess.proofs.wishes.wish_one.Tie as tie
 
 element-write-wish : tie.Need-element-write-wish
 element-write-wish c = omega arith

@@ -1,10 +1,10 @@
--- `core_dual::dual::wish_none` meets its contract: each turn clears one byte more.
+-- `core_guess::wishes::wish_none` meets its contract: each turn clears one byte more.
 use Prim.Native.Nat.{_≤_, _-_}
 use native.Mathlib.Omega.{arith}
 use Rattle.core_guess.specs.Guess.{Unwished}
 use Rattle.core_guess.proofs.Wishing.{unwished-end, unwished-more, unwished-start}
-use Rattle.core_dual.proofs.dual.wish_none.Statement.{statement}
-use Rattle.core_dual.proofs.dual.wish_none.Tie as tie
+use Rattle.core_guess.proofs.wishes.wish_none.Statement.{statement}
+use Rattle.core_guess.proofs.wishes.wish_none.Tie as tie
 
 abbrev Inv-loop : tie.InvT-loop
 Inv-loop gaps wish₀ e₀ wish e = (e ≤ gaps) × Unwished e wish₀ wish
