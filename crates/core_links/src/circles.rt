@@ -44,9 +44,8 @@ pub fn attach(e: GapNumber, x: Label, links: &mut Links)
 }
 
 // Puts every gap into the circle of the label on its right. No circle has a gap before.
-pub fn enclose_all(gaps: usize, right: &GapIndices, links: &mut Links)
+pub(crate) fn enclose_all(gaps: usize, right: &GapIndices, links: &mut Links)
     requires { ⌜ gaps ≤ gapsMost ⌝ }
-    ensures { λ _. ⌜ Guessed (after links) ⌝ }
 {
     let mut e: usize = 0;
     while e < gaps {
