@@ -1,3 +1,2 @@
-// The first guess: the gap into a block that lacks most, and two blocks that become one. In doubles, and nobody trusts it.
+// The first guess: two blocks become one. In doubles, and nobody trusts it.
 pub mod joining;
-pub mod widest;

@@ -2,8 +2,8 @@
 // most become one.
 use core_guess::room::NO_GAP;
 use core_joining::joining::close;
-use core_joining::widest::is_from;
-use core_joining::widest::widest;
+use core_lacking::widest::is_from;
+use core_lacking::widest::widest;
 use core_links::start::start;
 use core_links::state::DONE;
 use core_links::state::Found;

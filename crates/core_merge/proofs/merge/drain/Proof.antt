@@ -7,7 +7,7 @@ use Rattle.core_guess.proofs.Wishing.{wished-none, wished-one, wished-then}
 use Rattle.core_merge.proofs.merge.drain.Statement.{statement}
 use Rattle.core_merge.proofs.merge.drain.Tie as tie
 use Rattle.core_joining.proofs.joining.close.Reads as close-reads
-use Rattle.core_joining.proofs.widest.widest.Reads as widest-reads
+use Rattle.core_lacking.proofs.widest.widest.Reads as widest-reads
 
 abbrev Inv-loop : tie.InvT-loop
 Inv-loop gaps x left right distance kind links₀ spots₀ wish₀ turns₀ links spots wish turns = (turns ≤ 48) × Wished gaps wish₀ wish

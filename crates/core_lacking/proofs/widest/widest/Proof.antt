@@ -1,9 +1,9 @@
--- `core_joining::widest::widest` is safe and ends: it looks at each gap at most once.
+-- `core_lacking::widest::widest` is safe and ends: it looks at each gap at most once.
 use Prim.Native.Nat.{_≤_, _<_, _-_}
 use native.Mathlib.Omega.{arith}
 use mathlib.Core.Logic.{⊎-elim}
-use Rattle.core_joining.proofs.widest.widest.Statement.{statement}
-use Rattle.core_joining.proofs.widest.widest.Tie as tie
+use Rattle.core_lacking.proofs.widest.widest.Statement.{statement}
+use Rattle.core_lacking.proofs.widest.widest.Tie as tie
 
 abbrev Inv-loop : tie.InvT-loop
 Inv-loop left right distance kind links₀ spots b last lead₀ stays₀ turns₀ links lead stays turns = (turns ≤ 192) × (stays < 256)

@@ -1,10 +1,10 @@
--- `core_dual::dual::worst_gap` is safe and ends.
+-- `core_lacking::worst::worst_gap` is safe and ends.
 use Prim.Native.Nat.{_≤_, _-_}
 use native.Mathlib.Omega.{arith}
 use borrow.Author.Needs.{needs}
-use Rattle.core_dual.proofs.dual.worst_gap.Statement.{statement}
-use Rattle.core_dual.proofs.dual.worst_gap.Tie as tie
-use Rattle.core_dual.proofs.dual.told.Reads as told-reads
+use Rattle.core_lacking.proofs.worst.worst_gap.Statement.{statement}
+use Rattle.core_lacking.proofs.worst.worst_gap.Tie as tie
+use Rattle.core_lacking.proofs.worst.told.Reads as told-reads
 use Rattle.core_trees.proofs.nodes.lack_between.Reads as lack-between-reads
 
 abbrev Inv-loop : tie.InvT-loop

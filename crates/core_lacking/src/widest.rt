@@ -1,4 +1,4 @@
-// The gap into a block that lacks most.
+// Of the gaps into a block the one that lacks most, for the first guess.
 use core_guess::doubles::TOLERANCE;
 use core_guess::room::NO_GAP;
 use core_links::state::CIRCLE;

@@ -1,10 +1,10 @@
--- `core_dual::dual::reaches` is safe and ends.
+-- `core_lacking::worst::reaches` is safe and ends.
 use Prim.Native.Nat.{_≤_, _-_}
 use native.Mathlib.Omega.{arith}
 use borrow.Author.Needs.{needs}
-use Rattle.core_dual.proofs.dual.reaches.Statement.{statement}
-use Rattle.core_dual.proofs.dual.reaches.Tie as tie
-use Rattle.core_dual.proofs.dual.reach_of.Reads as reach-of-reads
+use Rattle.core_lacking.proofs.worst.reaches.Statement.{statement}
+use Rattle.core_lacking.proofs.worst.reaches.Tie as tie
+use Rattle.core_lacking.proofs.worst.reach_of.Reads as reach-of-reads
 
 abbrev Inv-loop : tie.InvT-loop
 Inv-loop gaps distance kind reach₀ e₀ reach e = e ≤ gaps
