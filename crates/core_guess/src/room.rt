@@ -3,7 +3,7 @@
 // Room for each label in a section of a work array.
 pub const ROOM: usize = 64;
 
-// Room for each gap: as many as a byte tells apart.
+// As many gap numbers as a byte tells apart.
 pub const GAP_ROOM: usize = 256;
 
 // A byte that is no gap's number: it stands for none.

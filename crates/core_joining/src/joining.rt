@@ -120,7 +120,7 @@ fn join_circles(joint: Joint, links: &mut Links)
     let b = entry(joint.from);
     links[SIZE + a] = narrow(joint.size);
     swap(NEXT + a, NEXT + b, links);
-    attach(joint.last, Label(a), links);
+    attach(joint.last, joint.to, links);
 }
 
 // The blocks at the ends of gap e become one, in which the gap is tight.

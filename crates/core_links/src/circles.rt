@@ -3,8 +3,10 @@ use crate::state::CIRCLE;
 use crate::state::END;
 use crate::state::Links;
 use crate::state::end_of;
+use crate::state::entry;
 use crate::state::link;
 use core_guess::room::ROOM;
+use ground::Block;
 use ground::GapNumber;
 use ground::Label;
 use ground::bytes::narrow;
@@ -26,13 +28,13 @@ pub fn swap(a: usize, b: usize, links: &mut Links)
     links[b] = after;
 }
 
-// The circle in which gap e is, if it is a gap, becomes part of that of the block with the number of label x.
-pub fn attach(e: GapNumber, x: Label, links: &mut Links)
+// The circle in which gap e is, if it is a gap, becomes part of that of block b.
+pub fn attach(e: GapNumber, b: Block, links: &mut Links)
     requires { ⌜ e .0 < bytesMost ⌝ }
     ensures { λ _. ⌜ Guessed (after links) ⌝ }
 {
     let k = e.0;
-    let v = x.0 % ROOM;
+    let v = entry(b);
     let last = link(END + v, links);
     if GAPS <= last {
         links[END + v] = narrow(k);
@@ -43,6 +45,11 @@ pub fn attach(e: GapNumber, x: Label, links: &mut Links)
     }
 }
 
+// The block of a label that stands alone.
+fn own_block(x: Label) -> Block {
+    Block(narrow(x.0 % ROOM))
+}
+
 // Puts every gap into the circle of the label on its right. No circle has a gap before.
 pub(crate) fn enclose_all(gaps: usize, right: &GapIndices, links: &mut Links)
     requires { ⌜ gaps ≤ gapsMost ⌝ }
@@ -50,7 +57,7 @@ pub(crate) fn enclose_all(gaps: usize, right: &GapIndices, links: &mut Links)
     let mut e: usize = 0;
     while e < gaps {
         links[CIRCLE + e] = narrow(e);
-        attach(GapNumber(e), end_of(GapNumber(e), right), links);
+        attach(GapNumber(e), own_block(end_of(GapNumber(e), right)), links);
         e += 1;
     }
 }

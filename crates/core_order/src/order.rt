@@ -60,7 +60,8 @@ fn look_after(e: GapNumber, x: Label, links: &Links) -> usize
     link(CIRCLE + k, links)
 }
 
-// Label x is opened as the open label of number at. They are counted from 1.
+// Label x is opened as the open label of number at. They are counted from 1. (With no gap into x this reads the circle at NO_GAP, which
+// holds NO_GAP from the start: NONE.)
 fn opening(x: Label, at: usize, done: usize, links: &Links) -> Step
     ensures { λ r. ⌜ (r .look < bytesMost) × (r .at < linksMost) ⌝ }
 {
