@@ -8,7 +8,7 @@
  * so threads may call them at once.
  *
  * The caller sees to the stack: nothing checks that there is enough. Arguments and return address included,
- * dirmoog_layout needs at most 18,632 bytes, dirmoog_read 5,936, dirmoog_listing 25,736, dirmoog_slack 40,
+ * dirmoog_layout needs at most 18,536 bytes, dirmoog_read 5,936, dirmoog_listing 25,736, dirmoog_slack 40,
  * dirmoog_round and dirmoog_round_half_up 8. What memcpy and memset need comes on top: a first call that has
  * them looked up took at most 2,232 bytes more on one machine and 3,152 on another. 32 KiB are enough.
  *

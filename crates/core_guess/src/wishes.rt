@@ -1,4 +1,4 @@
-// Bytes in which the guesses wish gaps.
+// Bytes in which the second guess wishes gaps.
 ghost use Rattle.std.specs.Prelude.{◌≤◌};
 ghost use Rattle.core_guess.specs.Guess.{Unwished, Wished};
 ghost use Rattle.ground.specs.Limits.{gaps_most};

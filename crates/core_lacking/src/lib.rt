@@ -1,2 +1,3 @@
-// The first guess: of the gaps into a block the one that lacks most. In doubles, and nobody trusts it.
+// The gap that lacks most, in doubles: of those into a block for the first guess, and of all for the second. Nobody trusts it.
 pub mod widest;
+pub mod worst;

@@ -6,8 +6,7 @@ ghost use Rattle.ground.specs.Limits.{bytes_most, gaps_most};
 use core_guess::doubles::TOLERANCE;
 use core_guess::room::NO_GAP;
 use core_links::state::{
-    CIRCLE, END, Found, Links, PLACE, Spots, block_of, distance_of, end_of, entry, link, offset_of,
-    place_of, spot,
+    CIRCLE, END, Found, Links, Spots, block_of, distance_of, end_of, entry, link, place_of,
 };
 use ground::bytes::narrow;
 use ground::limits::{EXACTLY, GAPS, GapBytes, GapIndices, GapInts};
@@ -22,28 +21,36 @@ pub fn is_from(e: GapNumber, b: Block, left: &GapIndices, links: &Links) -> bool
     a.0 == b.0
 }
 
-// How much gap e lacks, which leads into a block at a place.
-fn lack_of(
+// A gap that lacks, if one does, and how much.
+#[derive(Drop)]
+struct Lead {
+    gap: Found,
+    lack: f64,
+}
+
+// Gap e if it lacks more than the lead, else the lead. A gap of no kind is passed over.
+fn wider(
     e: GapNumber,
-    place: f64,
+    lead: Lead,
     left: &GapIndices,
     right: &GapIndices,
     distance: &GapInts,
+    kind: &GapBytes,
     links: &Links,
     spots: &Spots,
-) -> f64
+) -> Lead
     requires { e.0 < gaps_most }
 {
+    let k = e.0;
     let from = place_of(end_of(e, left), links, spots);
-    from + distance_of(e, distance) - (place + offset_of(end_of(e, right), spots))
-}
-
-// The gap that lacks most, as it is told: GAPS stands for none.
-fn told(found: GapNumber) -> Found {
-    if GAPS <= found.0 {
-        return Found::Nothing;
+    let lack = from + distance_of(e, distance) - place_of(end_of(e, right), links, spots);
+    if lead.lack < lack && kind[k] <= EXACTLY {
+        return Lead {
+            gap: Found::Gap(e),
+            lack: lack,
+        };
     }
-    Found::Gap(found)
+    lead
 }
 
 // Where a circle ends whose end was taken out: at the last gap that stays, if one does.
@@ -70,9 +77,6 @@ fn take_out(e: GapNumber, stays: GapNumber, b: Block, links: &mut Links)
 }
 
 // The gap into the block of label x from another one that lacks most. Gaps within the block are taken out of its circle on the way.
-// A gap of no kind is passed over, which is tested last: there is none on a sheet that passed the checks.
-// (Where no gap leads into it the circle is read at NO_GAP, which holds NO_GAP from the start. What changes in the loop is numbers,
-// not an enum: those stay in registers.)
 pub fn widest(
     x: Label,
     left: &GapIndices,
@@ -86,30 +90,39 @@ pub fn widest(
 {
     let b = block_of(x, links);
     let last = link(END + entry(b), links);
-    let place = spot(PLACE + entry(b), spots);
-    let mut most = TOLERANCE;
-    let mut found = GAPS;
+    if GAPS <= last {
+        return Found::Nothing;
+    }
+    let mut lead = Lead {
+        gap: Found::Nothing,
+        lack: TOLERANCE,
+    };
     let mut stays = last;
     let mut turns: usize = 0;
     while turns < GAPS {
         let e = link(CIRCLE + stays, links);
         if GAPS <= e {
-            return told(GapNumber(found));
+            return lead.gap;
         }
         if is_from(GapNumber(e), b, left, links) {
             take_out(GapNumber(e), GapNumber(stays), b, links);
         } else {
-            let lack = lack_of(GapNumber(e), place, left, right, distance, links, spots);
-            if most < lack && kind[e] <= EXACTLY {
-                most = lack;
-                found = e;
-            }
+            lead = wider(
+                GapNumber(e),
+                lead,
+                left,
+                right,
+                distance,
+                kind,
+                links,
+                spots,
+            );
             stays = e;
         }
         if e == last {
-            return told(GapNumber(found));
+            return lead.gap;
         }
         turns += 1;
     }
-    told(GapNumber(found))
+    lead.gap
 }

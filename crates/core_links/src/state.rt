@@ -22,8 +22,7 @@ pub const SIZE: usize = 128;
 pub const END: usize = 192;
 
 // Of the search for an order: the gap into a label to look at next; the open labels, each found from the one before; and the labels
-// that are done, in the order asked for, with room for twice as many. After the search the first has the labels in slots, and the second
-// the labels to which gaps lead back from them.
+// that are done, in the order asked for.
 pub const LOOK: usize = 256;
 
 // In place of a gap to look at: none is left; the label is new; it is done.
@@ -38,9 +37,9 @@ pub const OPEN: usize = 320;
 pub const DONE: usize = 384;
 
 // The next gap in its circle, with room for as many as a byte tells apart.
-pub const CIRCLE: usize = 512;
+pub const CIRCLE: usize = 448;
 
-pub const LINKS: usize = 768;
+pub const LINKS: usize = 704;
 
 pub type Links = [u8; LINKS];
 

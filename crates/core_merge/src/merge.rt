@@ -1,20 +1,17 @@
 // Blocks are merged leftwards: while a gap into a block from another one lacks, the two blocks at the ends of the gap that lacks
 // most become one.
-ghost use Rattle.std.specs.Prelude.{◌≤◌};
+ghost use Rattle.std.specs.Prelude.{◌≤◌, ◌<◌};
 ghost use Rattle.core_guess.specs.Guess.{Wished};
-ghost use Rattle.core_links.specs.Room.{drains_most};
 ghost use Rattle.ground.specs.Limits.{gaps_most, labels_most};
 
-use core_closing::closing::close_exact;
 use core_guess::room::NO_GAP;
 use core_joining::joining::close;
-use core_lacking::widest::widest;
+use core_lacking::widest::{is_from, widest};
 use core_links::start::start;
-use core_links::state::{DONE, Found, LINKS, Links, SPOTS, Spots, link};
+use core_links::state::{DONE, Found, LINKS, Links, SPOTS, Spots, block_of, end_of, link};
 use core_order::order::in_order;
-use core_slots::slots::leave_slots;
-use ground::Label;
-use ground::limits::{GapBytes, GapIndices, GapInts, LABELS, LabelInts};
+use ground::limits::{EXACTLY, GapBytes, GapIndices, GapInts, LABELS, LabelInts};
+use ground::{GapNumber, Label};
 
 // Merges the block of label x with others while a gap into it lacks. Wishes those gaps.
 fn drain(
@@ -47,9 +44,9 @@ fn drain(
     }
 }
 
-// Drains the blocks of so many labels, in the order.
+// Drains the block of every label, in the order of the gaps.
 fn sweep(
-    count: usize,
+    labels: usize,
     gaps: usize,
     left: &GapIndices,
     right: &GapIndices,
@@ -59,36 +56,60 @@ fn sweep(
     spots: &mut Spots,
     wish: &mut GapBytes,
 )
-    requires { (count ≤ drains_most) × (gaps ≤ gaps_most) }
+    requires { (labels ≤ labels_most) × (gaps ≤ gaps_most) }
     ensures { Wished gaps wish.old wish.new }
 {
     let mut i: usize = 0;
-    while i < count {
+    while i < labels {
         let x = Label(link(DONE + i, links));
         drain(gaps, x, left, right, distance, kind, links, spots, wish);
         i += 1;
     }
 }
 
-// Brings labels in slots to the end of the order, if exact gaps were closed. Gives how many entries of it are to be drained.
-fn drains(
-    closed: bool,
-    labels: usize,
+// Whether gap e is exact, or made so by an opposite one and wished already, and goes from one block to another.
+fn is_to_close(
+    e: GapNumber,
     left: &GapIndices,
     right: &GapIndices,
-    links: &mut Links,
-) -> usize
-    requires { labels ≤ labels_most }
-    ensures { result ≤ drains_most }
+    kind: &GapBytes,
+    wish: &GapBytes,
+    links: &Links,
+) -> bool
+    requires { e.0 < gaps_most }
 {
-    if closed {
-        return leave_slots(labels, left, right, links);
+    let k = e.0;
+    if kind[k] == EXACTLY || wish[k] == 1 {
+        let b = block_of(end_of(e, right), links);
+        return !is_from(e, b, left, links);
     }
-    labels
+    false
 }
 
-// Merges blocks, exact gaps first. Unless the order is straight, a block may move right after the gaps into it were looked at, so they
-// are looked at again. (Labels in slots may move others so too, which is left to the second guess.)
+// Merges the blocks at the ends of each exact gap, and of each gap that an opposite one makes exact.
+fn close_exact(
+    gaps: usize,
+    left: &GapIndices,
+    right: &GapIndices,
+    distance: &GapInts,
+    kind: &GapBytes,
+    wish: &GapBytes,
+    links: &mut Links,
+    spots: &mut Spots,
+)
+    requires { gaps ≤ gaps_most }
+{
+    let mut e: usize = 0;
+    while e < gaps {
+        if is_to_close(GapNumber(e), left, right, kind, wish, links) {
+            close(GapNumber(e), left, right, distance, links, spots);
+        }
+        e += 1;
+    }
+}
+
+// Merges blocks, exact gaps first. Unless the order is straight, which it is where no gap closes a ring, a block may move right after
+// the gaps into it were looked at, so they are looked at again.
 fn merge_all(
     straight: bool,
     labels: usize,
@@ -104,13 +125,16 @@ fn merge_all(
     requires { (labels ≤ labels_most) × (gaps ≤ gaps_most) }
     ensures { Wished gaps wish.old wish.new }
 {
-    let closed = close_exact(gaps, left, right, distance, kind, wish, links, spots);
-    let count = drains(closed, labels, left, right, links);
-    sweep(count, gaps, left, right, distance, kind, links, spots, wish);
+    close_exact(gaps, left, right, distance, kind, wish, links, spots);
+    sweep(
+        labels, gaps, left, right, distance, kind, links, spots, wish,
+    );
     if straight {
         return;
     }
-    sweep(count, gaps, left, right, distance, kind, links, spots, wish);
+    sweep(
+        labels, gaps, left, right, distance, kind, links, spots, wish,
+    );
 }
 
 // The first proposal where no mark is carried.

@@ -1,15 +1,14 @@
 // The labels in the order of the gaps: the left label of a gap comes before the right one, but for gaps that close a ring. The
 // search goes depth first from a label to those on the left of the gaps into it.
 ghost use Rattle.std.specs.Prelude.{◌≤◌, ◌<◌};
-ghost use Rattle.core_guess.specs.Guess.{Guessed, Wished};
+ghost use Rattle.core_guess.specs.Guess.{Wished};
 ghost use Rattle.core_links.specs.Room.{links_most};
 ghost use Rattle.ground.specs.Limits.{bytes_most, gaps_most, labels_most};
 
 use core_guess::room::ROOM;
 use core_links::state::{
-    CIRCLE, DONE, END, Found, IS_DONE, IS_NEW, LOOK, Links, NONE, OPEN, end_of, link,
+    CIRCLE, DONE, END, Found, IS_DONE, IS_NEW, LOOK, Links, NONE, OPEN, distance_of, end_of, link,
 };
-use core_opposed::opposed::{rises, wish_opposed};
 use ground::bytes::narrow;
 use ground::limits::{GAPS, GapBytes, GapIndices, GapInts};
 use ground::{GapNumber, Label};
@@ -146,8 +145,55 @@ fn keep(x: Label, look: usize, at: usize, links: &mut Links)
     links[at] = narrow(i);
 }
 
-// Takes a step. A gap that closes a ring, or the opposite one, is wished if the two are as good as exact. Gives how many gaps close
-// a ring.
+// Whether gap f, if it is one, goes from where gap e ends and has the negated distance.
+fn opposes(
+    f: GapNumber,
+    e: GapNumber,
+    left: &GapIndices,
+    right: &GapIndices,
+    distance: &GapInts,
+) -> bool
+    requires { e.0 < gaps_most }
+{
+    if GAPS <= f.0 {
+        return false;
+    }
+    let u = end_of(f, left);
+    let v = end_of(e, right);
+    if u.0 != v.0 {
+        return false;
+    }
+    distance_of(f, distance) == -distance_of(e, distance)
+}
+
+// Whether a gap the other way with the negated distance stands beside gap e: the two are as good as an exact gap.
+fn is_opposed(
+    e: GapNumber,
+    left: &GapIndices,
+    right: &GapIndices,
+    distance: &GapInts,
+    links: &Links,
+) -> bool
+    requires { e.0 < gaps_most }
+{
+    let u = end_of(e, left);
+    let last = link(END + u.0 % ROOM, links);
+    let mut f = last;
+    let mut turns: usize = 0;
+    while turns < GAPS {
+        f = link(CIRCLE + f, links);
+        if opposes(GapNumber(f), e, left, right, distance) {
+            return true;
+        }
+        if f == last {
+            return false;
+        }
+        turns += 1;
+    }
+    false
+}
+
+// Takes a step, and wishes the gap that closes a ring, if an opposite gap makes it exact. Gives how many gaps close a ring.
 fn take(
     step: Step,
     gaps: usize,
@@ -165,15 +211,34 @@ fn take(
     let Found::Gap(e) = ring else {
         return 0;
     };
-    if gaps <= e.0 {
+    let k = e.0;
+    if gaps <= k {
         return 0;
     }
-    wish_opposed(gaps, e, left, right, distance, links, wish);
+    if is_opposed(e, left, right, distance, links) {
+        wish[k] = 1;
+    }
     1
 }
 
-// Brings the labels in order, without a search where none is needed. Wishes gaps that opposite gaps make exact. Says whether the order is
-// straight: no gap closes a ring, or opposite gaps alone do, between labels in order as they are numbered.
+// Whether every gap goes from a label to a later one: then the labels are in order as they are numbered.
+fn is_rising(gaps: usize, left: &GapIndices, right: &GapIndices) -> bool
+    requires { gaps ≤ gaps_most }
+{
+    let mut e: usize = 0;
+    while e < gaps {
+        let u = end_of(GapNumber(e), left);
+        let v = end_of(GapNumber(e), right);
+        if v.0 <= u.0 {
+            return false;
+        }
+        e += 1;
+    }
+    true
+}
+
+// Brings the labels in order, without a search where none is needed. Wishes gaps that opposite gaps make exact. Says whether no gap
+// closes a ring.
 pub fn in_order(
     labels: usize,
     gaps: usize,
@@ -184,9 +249,9 @@ pub fn in_order(
     wish: &mut GapBytes,
 ) -> bool
     requires { (labels ≤ labels_most) × (gaps ≤ gaps_most) }
-    ensures { Wished gaps wish.old wish.new × Guessed links.new × Guessed result }
+    ensures { Wished gaps wish.old wish.new }
 {
-    if rises(gaps, left, right, distance, links, wish) {
+    if is_rising(gaps, left, right) {
         return true;
     }
     let mut rings: usize = 0;

@@ -1,2 +1,3 @@
-// A gap pushes the trees at its ends apart until it is marked. Nobody trusts it.
+// A gap pushes the trees at its ends apart: which marked gaps give way, and the two trees that meet. Nobody trusts it.
 pub mod push;
+mod weakest;

@@ -5,6 +5,9 @@ pub const LABELS: usize = 48;
 
 pub const GAPS: usize = 192;
 
+// Block numbers are bytes.
+pub const BLOCKS: usize = 256;
+
 // A wanted place and a gap's distance, either way; a weight, at least and at most.
 pub const WANTED_MOST: i64 = 200000;
 
@@ -29,14 +32,16 @@ pub const FRACTION_DEN_MOST: i64 = 518400;
 
 pub const FRACTION_NUM_MOST: u64 = 4611686018427387904;
 
-// A number, an index or a byte for each label.
+// A number, an index, a byte or a double for each label.
 pub type LabelInts = [i64; LABELS];
 
 pub type LabelIndices = [usize; LABELS];
 
 pub type LabelBytes = [u8; LABELS];
 
-// The same for each gap, and a double.
+pub type LabelDoubles = [f64; LABELS];
+
+// The same for each gap, and a double for each block number.
 pub type GapInts = [i64; GAPS];
 
 pub type GapIndices = [usize; GAPS];
@@ -44,3 +49,5 @@ pub type GapIndices = [usize; GAPS];
 pub type GapBytes = [u8; GAPS];
 
 pub type GapDoubles = [f64; GAPS];
+
+pub type BlockDoubles = [f64; BLOCKS];

@@ -88,21 +88,6 @@ fn outer_loop_ran(name: &str, record: &str, line: &str, outcome: Outcome) -> boo
     }
 }
 
-/// Whether opposite gaps keep two labels at one distance. Where the doubles take such a group apart, they may come upon
-/// a gap that lacks by a hair.
-fn has_opposite_gaps(sheet: &Sheet) -> bool {
-    let gaps: Vec<_> = sheet
-        .all_gaps()
-        .into_iter()
-        .filter(|gap| !gap.exact)
-        .collect();
-    gaps.iter().any(|one| {
-        gaps.iter().any(|other| {
-            (one.left, one.right, one.distance) == (other.right, other.left, -other.distance)
-        })
-    })
-}
-
 /// The library lays the program's sheets out as the second solver and the program say. The outer loop ran where the
 /// sheet has a ring, and where a gap lacks by a hair; everywhere else the proposal was right.
 #[test]
@@ -126,13 +111,12 @@ fn sheets_of_the_program() {
             // marks that are carried may be right where a gap lacks by a hair
             let hair = told.name.starts_with("hair ");
             let expected = hair || outcome == Outcome::Refused(9);
-            let either = hair && (record != "zeros" || has_opposite_gaps(&sheet));
-            assert!(ran == expected || either, "{line}");
+            assert!(ran == expected || hair && record != "zeros", "{line}");
         }
     }
     println!("by the outer loop {placed} placed and {refused} refused, by the proposal {settled}");
     assert_eq!(placed + refused, ran);
-    assert!(placed >= 13 && refused >= 21 && settled >= 71);
+    assert!(placed >= 14 && refused >= 21 && settled >= 70);
     // of sheets with exact gaps, too, it placed one and refused one
     assert!(joined.contains(&Outcome::Placed) && joined.contains(&Outcome::Refused(9)));
 }
@@ -180,19 +164,15 @@ fn family_of_the_program() {
     assert!(placed >= 27 && refused >= 9);
 }
 
-/// Of the family of sheets with a hair, the program's are all placed, by the outer loop where no mark is carried, but
-/// for one with opposite gaps.
+/// Of the family of sheets with a hair, the program's are all placed, by the outer loop where no mark is carried.
 #[test]
 fn hair_of_the_program() {
     let told = told_of("hair", |random| hair(random).sheet);
-    let by_outer_loop = |told: &&Told| told.lines[0] == "  zeros: outer loop, placed";
-    for told in told.iter().filter(|told| !by_outer_loop(told)) {
-        let sheet = read(told.text.as_bytes()).expect("a sheet");
-        assert!(has_opposite_gaps(&sheet), "{}", told.name);
+    for lines in told.iter().map(|told| &told.lines) {
+        assert_eq!(lines[0], "  zeros: outer loop, placed");
+        assert!(lines.iter().all(|line| line.ends_with(", placed")));
     }
-    let mut lines = told.iter().flat_map(|told| &told.lines);
-    assert!(lines.all(|line| line.ends_with(", placed")));
-    assert!(told.iter().filter(by_outer_loop).count() >= 7);
+    assert!(told.len() >= 8);
 }
 
 /// Calls on a sheet from the program's records, from the marks that a call leaves, and from any bytes.

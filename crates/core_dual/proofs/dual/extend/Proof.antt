@@ -4,8 +4,8 @@ use Rattle.core_guess.proofs.Wishing.{extended_no}
 use Rattle.core_dual.proofs.dual.extend.Statement.{statement}
 use Rattle.core_dual.proofs.dual.extend.Tie as tie
 use Rattle.core_dual.proofs.dual.from_marks.Reads as from-marks-reads
-use Rattle.core_choosing.proofs.worst.reaches.Reads as reaches-reads
-use Rattle.core_choosing.proofs.worst.worst_gap.Reads as worst-gap-reads
+use Rattle.core_lacking.proofs.worst.reaches.Reads as reaches-reads
+use Rattle.core_lacking.proofs.worst.worst_gap.Reads as worst-gap-reads
 use Rattle.core_planting.proofs.planting.stand.Reads as stand-reads
 
 reaches-requires : tie.Need-reaches-requires

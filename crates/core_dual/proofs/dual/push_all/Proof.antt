@@ -4,7 +4,7 @@ use native.Mathlib.Omega.{arith}
 use borrow.Author.Rules.{rules}
 use Rattle.core_dual.proofs.dual.push_all.Statement.{statement}
 use Rattle.core_dual.proofs.dual.push_all.Tie as tie
-use Rattle.core_choosing.proofs.worst.worst_gap.Reads as worst-gap-reads
+use Rattle.core_lacking.proofs.worst.worst_gap.Reads as worst-gap-reads
 use Rattle.core_push.proofs.push.push.Reads as push-reads
 
 abbrev invariant-loop : tie.invariant-loop

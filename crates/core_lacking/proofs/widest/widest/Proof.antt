@@ -6,10 +6,10 @@ use Rattle.core_lacking.proofs.widest.widest.Statement.{statement}
 use Rattle.core_lacking.proofs.widest.widest.Tie as tie
 
 abbrev invariant-loop : tie.invariant-loop
-invariant-loop left right distance kind links₀ spots b last place most₀ found₀ stays₀ turns₀ links most found stays turns = (turns ≤ 192) × (stays < 256)
+invariant-loop left right distance kind links₀ spots b last lead₀ stays₀ turns₀ links lead stays turns = (turns ≤ 192) × (stays < 256)
 
 abbrev decreases-loop : tie.decreases-loop
-decreases-loop left right distance kind links₀ spots b last place most₀ found₀ stays₀ turns₀ links most found stays turns = 192 - turns
+decreases-loop left right distance kind links₀ spots b last lead₀ stays₀ turns₀ links lead stays turns = 192 - turns
 
 block-of-requires : tie.Need-block-of-requires invariant-loop decreases-loop
 block-of-requires c κs = tt
@@ -23,14 +23,8 @@ add-link c = omega arith
 link-requires : tie.Need-link-requires invariant-loop decreases-loop
 link-requires c κs = omega arith
 
-entry-requires-2 : tie.Need-entry-requires-2 invariant-loop decreases-loop
-entry-requires-2 c κs = tt
-
-add-spot : tie.Need-overflow-add-spot invariant-loop decreases-loop
-add-spot c = omega arith
-
-spot-requires : tie.Need-spot-requires invariant-loop decreases-loop
-spot-requires c κs = omega arith
+returns : tie.Need-returns invariant-loop decreases-loop
+returns c = (tt, tt)
 
 loop-holds : tie.Need-loop-init invariant-loop decreases-loop
 loop-holds c = omega arith
@@ -41,11 +35,8 @@ add-link-2 c = omega arith
 link-requires-2 : tie.Need-link-requires-2 invariant-loop decreases-loop
 link-requires-2 c κs = omega arith
 
-told-requires : tie.Need-told-requires invariant-loop decreases-loop
-told-requires c κs = tt
-
-returns : tie.Need-returns invariant-loop decreases-loop
-returns c = (tt, tt)
+returns-2 : tie.Need-returns-2 invariant-loop decreases-loop
+returns-2 c = (tt, tt)
 
 is-from-requires : tie.Need-is-from-requires invariant-loop decreases-loop
 is-from-requires c κs = omega arith
@@ -53,17 +44,11 @@ is-from-requires c κs = omega arith
 take-out-requires : tie.Need-take-out-requires invariant-loop decreases-loop
 take-out-requires c κs = omega arith
 
-lack-of-requires : tie.Need-lack-of-requires invariant-loop decreases-loop
-lack-of-requires c κs = omega arith
+wider-requires : tie.Need-wider-requires invariant-loop decreases-loop
+wider-requires c κs = omega arith
 
-element-copy-out-if4 : tie.Need-element-copy-out-if4 invariant-loop decreases-loop
-element-copy-out-if4 c = omega arith
-
-told-requires-2 : tie.Need-told-requires-2 invariant-loop decreases-loop
-told-requires-2 c κs = tt
-
-returns-2 : tie.Need-returns-2 invariant-loop decreases-loop
-returns-2 c = (tt, tt)
+returns-3 : tie.Need-returns-3 invariant-loop decreases-loop
+returns-3 c = (tt, tt)
 
 add-turns : tie.Need-overflow-add-turns invariant-loop decreases-loop
 add-turns c = omega arith
@@ -72,13 +57,10 @@ loop-less : tie.Need-loop-smaller invariant-loop decreases-loop
 loop-less c = omega arith
 
 loop-again : tie.Need-loop-preserved invariant-loop decreases-loop
-loop-again c = (omega arith, ⊎_elim (λ w. omega arith) (⊎_elim (λ w. omega arith) (λ w. omega arith)) c.before.if2.branch)
+loop-again c = (omega arith, ⊎_elim (λ w. omega arith) (λ w. omega arith) c.before.if3.branch)
 
-told-requires-3 : tie.Need-told-requires-3 invariant-loop decreases-loop
-told-requires-3 c κs = tt
-
-returns-3 : tie.Need-returns-3 invariant-loop decreases-loop
-returns-3 c = (tt, tt)
+returns-4 : tie.Need-returns-4 invariant-loop decreases-loop
+returns-4 c = (tt, tt)
 
 pub widest_spec : {M : Type 1} → statement M
 widest_spec =
@@ -90,22 +72,16 @@ widest_spec =
     entry-requires
     add-link
     link-requires
-    entry-requires-2
-    add-spot
-    spot-requires
+    returns
     loop-holds
     add-link-2
     link-requires-2
-    told-requires
-    returns
+    returns-2
     is-from-requires
     take-out-requires
-    lack-of-requires
-    element-copy-out-if4
-    told-requires-2
-    returns-2
+    wider-requires
+    returns-3
     add-turns
     loop-less
     loop-again
-    told-requires-3
-    returns-3)
+    returns-4)

@@ -20,7 +20,7 @@ merge-all-requires : tie.Need-merge-all-requires
 merge-all-requires c κs = search rules
 
 returns-2 : tie.Need-returns-2
-returns-2 c = wished_then c.before.before.before.before.in_order.ensures.0 c.merge-all.ensures
+returns-2 c = wished_then c.before.before.before.before.in_order.ensures c.merge-all.ensures
 
 pub first_spec : {M : Type 1} → statement M
 first_spec =

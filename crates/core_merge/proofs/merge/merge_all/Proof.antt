@@ -1,17 +1,13 @@
 -- `core_merge::merge::merge_all` meets its contract: what the two sweeps wish is all that it wishes.
-use Rattle.core_guess.proofs.Wishing.{wished_then}
 use borrow.Author.Rules.{rules}
+use Rattle.core_guess.proofs.Wishing.{wished_then}
 use Rattle.core_merge.proofs.merge.merge_all.Statement.{statement}
 use Rattle.core_merge.proofs.merge.merge_all.Tie as tie
-use Rattle.core_merge.proofs.merge.drains.Reads as drains-reads
+use Rattle.core_merge.proofs.merge.close_exact.Reads as close-exact-reads
 use Rattle.core_merge.proofs.merge.sweep.Reads as sweep-reads
-use Rattle.core_closing.proofs.closing.close_exact.Reads as close-exact-reads
 
 close-exact-requires : tie.Need-close-exact-requires
 close-exact-requires c κs = search rules
-
-drains-requires : tie.Need-drains-requires
-drains-requires c κs = search rules
 
 sweep-requires : tie.Need-sweep-requires
 sweep-requires c κs = search rules
@@ -27,11 +23,4 @@ returns-2 c = wished_then c.before.before.before.before.before.sweep.ensures c.s
 
 pub merge_all_spec : {M : Type 1} → statement M
 merge_all_spec =
-    tie.close
-    (tie.spec
-    close-exact-requires
-    drains-requires
-    sweep-requires
-    returns
-    sweep-requires-2
-    returns-2)
+    tie.close (tie.spec close-exact-requires sweep-requires returns sweep-requires-2 returns-2)

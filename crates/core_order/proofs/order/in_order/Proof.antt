@@ -13,18 +13,17 @@ invariant-loop labels gaps left right distance links₀ wish₀ rings₀ opened�
 abbrev decreases-loop : tie.decreases-loop
 decreases-loop labels gaps left right distance links₀ wish₀ rings₀ opened₀ done₀ i₀ turns₀ links wish rings opened done i turns = 512 - turns
 
-rises-requires : tie.Need-rises-requires invariant-loop decreases-loop
-rises-requires c κs = omega arith
+is-rising-requires : tie.Need-is-rising-requires invariant-loop decreases-loop
+is-rising-requires c κs = omega arith
 
 returns : tie.Need-returns invariant-loop decreases-loop
-returns c = (c.before.rises.ensures.0, tt, tt)
+returns c = wished_none
 
 loop-holds : tie.Need-loop-init invariant-loop decreases-loop
 loop-holds c = (omega arith, omega arith, omega arith, wished_none)
 
 returns-2 : tie.Need-returns-2 invariant-loop decreases-loop
-returns-2 c =
-    (wished_then c.before.before.before.before.before.rises.ensures.0 c.before.before.before.loop.invariant.3, tt, tt)
+returns-2 c = c.before.before.before.loop.invariant.3
 
 add-i : tie.Need-overflow-add-i invariant-loop decreases-loop
 add-i c = omega arith
@@ -53,7 +52,7 @@ loop-again c = (
 )
 
 returns-3 : tie.Need-returns-3 invariant-loop decreases-loop
-returns-3 c = (wished_then c.before.before.before.rises.ensures.0 c.before.loop.invariant.3, tt, tt)
+returns-3 c = c.before.loop.invariant.3
 
 pub in_order_spec : {M : Type 1} → statement M
 in_order_spec =
@@ -61,7 +60,7 @@ in_order_spec =
     (tie.spec
     invariant-loop
     decreases-loop
-    rises-requires
+    is-rising-requires
     returns
     loop-holds
     returns-2

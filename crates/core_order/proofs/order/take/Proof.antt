@@ -1,10 +1,10 @@
 -- `core_order::order::take` meets its contract: the gap that it wishes is one of the gaps.
 use native.Mathlib.Omega.{arith}
-use Rattle.core_guess.proofs.Wishing.{wished_none}
+use Rattle.core_guess.proofs.Wishing.{wished_none, wished_one}
 use borrow.Author.Rules.{rules}
 use Rattle.core_order.proofs.order.take.Statement.{statement}
 use Rattle.core_order.proofs.order.take.Tie as tie
-use Rattle.core_opposed.proofs.opposed.wish_opposed.Reads as wish-opposed-reads
+use Rattle.core_order.proofs.order.is_opposed.Reads as is-opposed-reads
 use Rattle.core_order.proofs.order.keep.Reads as keep-reads
 
 keep-requires : tie.Need-keep-requires
@@ -22,11 +22,17 @@ returns c = (omega arith, wished_none)
 returns-2 : tie.Need-returns-2
 returns-2 c = (omega arith, wished_none)
 
-wish-opposed-requires : tie.Need-wish-opposed-requires
-wish-opposed-requires c κs = omega arith
+is-opposed-requires : tie.Need-is-opposed-requires
+is-opposed-requires c κs = search rules
+
+element-write-wish : tie.Need-element-write-wish
+element-write-wish c = search rules
 
 returns-3 : tie.Need-returns-3
-returns-3 c = (omega arith, c.wish-opposed.ensures.0)
+returns-3 c = (omega arith, wished_one _ _ (omega arith) (omega arith))
+
+returns-4 : tie.Need-returns-4
+returns-4 c = (omega arith, wished_none)
 
 pub take_spec : {M : Type 1} → statement M
 take_spec =
@@ -37,5 +43,7 @@ take_spec =
     enum_told
     returns
     returns-2
-    wish-opposed-requires
-    returns-3)
+    is-opposed-requires
+    element-write-wish
+    returns-3
+    returns-4)
