@@ -1,3 +1,4 @@
+#![tactic(auto)]
 // Lays out the bench sheets of document 01 that have no P, and sheets with exact gaps, each from three carried records,
 // and prints places, multipliers, marks and rings. Each sheet has a line with its name in front and a byte 0, which no
 // sheet has, behind.

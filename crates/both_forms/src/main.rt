@@ -1,3 +1,4 @@
+#![tactic(auto)]
 // Runs the two layout calls, `ring_part` and `back_part`: the compiler behind their proofs is trusted.
 // Each bench sheet of document 01, those with P too, and sheets with exact gaps are laid out in both forms by
 // `lay_out_both`, and what the two calls answer and leave is compared and printed. A ring is printed through the

@@ -1,3 +1,4 @@
+#![tactic(auto)]
 // Sums over a block of the forest, and elimination from its last label to its first.
 pub mod block;
 pub mod eliminate;
@@ -7,7 +8,7 @@ ghost use Rattle.std.specs.Int.{w64};
 ghost use Rattle.std.proofs.Common.{SFits};
 
 // The sums over a block: the weight of its labels, and the weighted sum of what they want, less their offsets.
-#[derive(Drop)]
+#[derive(Clone, Copy)]
 pub struct Sums {
     pub weight: i64,
     pub wanted: i64,

@@ -1,3 +1,4 @@
+#![tactic(auto)]
 // The forest of marked gaps, searched from a root.
 pub mod chain;
 pub mod search;

@@ -18,7 +18,7 @@ const SIZES: usize = 256;
 
 // Block from becomes part of block to. Its labels stand farther from the place of block to by so much. What the two come to: place,
 // weight, and how many labels. And the gap where the walk round the gaps into block from ends.
-#[derive(Drop)]
+#[derive(Clone, Copy)]
 struct Joint {
     to: Block,
     from: Block,

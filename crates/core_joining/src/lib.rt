@@ -1,2 +1,3 @@
+#![tactic(auto)]
 // The first guess: two blocks become one. In doubles, and nobody trusts it.
 pub mod joining;

@@ -22,7 +22,7 @@ pub fn is_from(e: GapNumber, b: Block, left: &GapIndices, links: &Links) -> bool
 }
 
 // A gap that lacks, if one does, and how much.
-#[derive(Drop)]
+#[derive(Clone, Copy)]
 struct Lead {
     gap: Found,
     lack: f64,

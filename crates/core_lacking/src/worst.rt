@@ -12,7 +12,7 @@ use ground::{GapNumber, Label};
 const NO_REACH: f64 = -1000000000000.0;
 
 // A gap that pushes, with its ends and its distance.
-#[derive(Drop)]
+#[derive(Clone, Copy)]
 pub struct Pushing {
     pub gap: GapNumber,
     pub left: Label,
@@ -21,7 +21,7 @@ pub struct Pushing {
 }
 
 // The gap that lacks most, if one lacks.
-#[derive(Drop)]
+#[derive(Clone, Copy)]
 pub enum Worst {
     Nothing,
     Gap(Pushing),

@@ -55,7 +55,7 @@ pub const SPOTS: usize = 192;
 pub type Spots = [f64; SPOTS];
 
 // A gap that was looked for, or none.
-#[derive(Drop)]
+#[derive(Clone, Copy)]
 pub enum Found {
     Nothing,
     Gap(GapNumber),

@@ -18,7 +18,7 @@ const STEPS: usize = 512;
 
 // A step of the search: a label, what there is to look at of it then, and the entry in which the label is kept; how many labels are
 // open and done then; and the gap that closes a ring, if one does.
-#[derive(Drop)]
+#[derive(Clone, Copy)]
 struct Step {
     label: Label,
     look: usize,

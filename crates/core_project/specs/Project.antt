@@ -15,8 +15,8 @@ use Rattle.core_project.specs.declared.Projected.TheVariants.{Placed, Ring}
 use Rattle.core_project.specs.Core.{Asked, fraction}
 use Rattle.ground.specs.Limits.{block_weight_most, offset_most}
 use denote.Triple.Both.{Both}
-use Rattle.ground.specs.Views.{Param}
-use Rattle.std.specs.Borrow.{Bor}
+use Rattle.ground.specs.Views.{MutParam}
+use Rattle.std.specs.Borrow.{MutBor}
 
 -- the front of a work array holds a lent list
 abbrev pub Copied : {A : Type 0} (n : ℕ) (from to : List A) (none : A) → Type 0
@@ -122,11 +122,11 @@ ProjectSays wanted weight left right distance kind r b after = SaysOf (problem_o
 
 -- ---- the lent buffers: as a `requires` sees them, and at entry and exit as an `ensures` does
 
-abbrev pub buffers_now : (place_num place_den mult_num mult_den : Bor (List ℤ)) (carried ring back : Bor (List ℕ)) → Buffers
+abbrev pub buffers_now : (place_num place_den mult_num mult_den : MutBor (List ℤ)) (carried ring back : MutBor (List ℕ)) → Buffers
 buffers_now place_num place_den mult_num mult_den carried ring back =
     record { place_num = place_num.now; place_den = place_den.now; mult_num = mult_num.now; mult_den = mult_den.now; carried = carried.now; ring = ring.now; back = back.now }
 
-abbrev pub buffers_lent : (place_num place_den mult_num mult_den : Param ℤ) (carried ring back : Param ℕ) → Both Buffers Buffers
+abbrev pub buffers_lent : (place_num place_den mult_num mult_den : MutParam ℤ) (carried ring back : MutParam ℕ) → Both Buffers Buffers
 buffers_lent place_num place_den mult_num mult_den carried ring back = record {
   entry = buffers_now place_num.entry place_den.entry mult_num.entry mult_den.entry carried.entry ring.entry back.entry;
   exit = buffers_now place_num.exit place_den.exit mult_num.exit mult_den.exit carried.exit ring.exit back.exit;

@@ -1,3 +1,4 @@
+#![tactic(auto)]
 // The method: outer steps over forests of marked gaps until every gap holds, or a ring is found.
 use ground::Label;
 
@@ -6,7 +7,7 @@ pub mod settle;
 pub mod turn;
 
 // A push: label from pushes label to, which should stand reach to its right.
-#[derive(Drop)]
+#[derive(Clone, Copy)]
 pub struct Push {
     pub from: Label,
     pub to: Label,
@@ -14,7 +15,7 @@ pub struct Push {
 }
 
 // What one turn of the outer loop comes to: every gap holds, or another step is due, or a ring of so many gaps was written.
-#[derive(Drop)]
+#[derive(Clone, Copy)]
 pub enum TurnEnd {
     Done,
     Again,
@@ -22,7 +23,7 @@ pub enum TurnEnd {
 }
 
 // What the outer loop comes to: every gap holds where the labels stand, or a ring of so many gaps was written.
-#[derive(Drop)]
+#[derive(Clone, Copy)]
 pub enum Found {
     Placed,
     Ring(usize),

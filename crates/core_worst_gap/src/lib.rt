@@ -1,3 +1,4 @@
+#![tactic(auto)]
 // The search for a gap that does not hold. Whether one does is told by the sign of its slack.
 ghost use Rattle.std.specs.Prelude.{◌≡◌, ◌⊎◌, ◌≢◌, ◌+◌, ◌<◌, eqb, pos, ◌<ℤ◌};
 ghost use Rattle.std.specs.Int.Signed.{quot_z};
@@ -13,7 +14,7 @@ use ground::signs::turned;
 use ground::{GapNumber, Label};
 
 // A gap that does not hold, and whether it is pushed backwards; or none, where every gap holds.
-#[derive(Drop)]
+#[derive(Clone, Copy)]
 pub enum Worst {
     Nothing,
     Gap(GapNumber, bool),
@@ -21,7 +22,7 @@ pub enum Worst {
 
 // The worst gap so far, and how many whole units it lacks. The tag is 0 where there is none, 1, or 2 where it is
 // pushed backwards: with whole words alone the loop copies no padding.
-#[derive(Drop)]
+#[derive(Clone, Copy)]
 struct Lead {
     tag: usize,
     gap: GapNumber,

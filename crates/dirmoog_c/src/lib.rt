@@ -1,3 +1,4 @@
+#![tactic(auto)]
 // The library for C and Rust: thin functions over the proved entries, on numbers and slices only.
 // Anything may be lent.
 ghost use Rattle.std.specs.Prelude.{◌≡◌, set};

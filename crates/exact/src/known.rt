@@ -3,7 +3,7 @@ ghost use Rattle.std.specs.Prelude.{◌≡◌};
 ghost use Rattle.exact.specs.Divide.{no_divisor};
 
 // A denominator, the remainder of a numerator by it, and their greatest common divisor.
-#[derive(Drop)]
+#[derive(Clone, Copy)]
 pub struct Divisor {
     pub den: i64,
     pub rest: i64,

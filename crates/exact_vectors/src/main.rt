@@ -1,3 +1,4 @@
+#![tactic(auto)]
 // Vectors of the crates exact and single_fractions, one to a line: both signs, zero, the six cases of rounding under their
 // names, each by both rules for halves, what is next to a half, and each limit with its neighbour.
 // The file stdout has what each line should be, worked out apart from this program.

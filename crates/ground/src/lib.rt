@@ -1,3 +1,4 @@
+#![tactic(auto)]
 // What every crate shares: the limits of a sheet, its work arrays, the numbers of labels, blocks and gaps,
 // a gap as a record, and answers.
 pub mod bytes;
@@ -8,17 +9,17 @@ pub mod signs;
 
 // Labels, blocks and gaps by their numbers. Each counts from 0, and none may stand where another is meant.
 // A block's number is kept as a byte.
-#[derive(Drop)]
+#[derive(Clone, Copy)]
 pub struct Label(pub usize);
 
-#[derive(Drop)]
+#[derive(Clone, Copy)]
 pub struct Block(pub u8);
 
-#[derive(Drop)]
+#[derive(Clone, Copy)]
 pub struct GapNumber(pub usize);
 
 // A gap as a station lends it in a list of records; its kind is AT_LEAST or EXACTLY of `limits`, and any other is refused.
-#[derive(Drop)]
+#[derive(Clone, Copy)]
 pub struct GapRecord {
     pub left: usize,
     pub right: usize,
@@ -27,7 +28,7 @@ pub struct GapRecord {
 }
 
 // A refusal: its number, its place, and with 9 the ring's length (else 0). Every answer that may be refused has it.
-#[derive(Drop)]
+#[derive(Clone, Copy)]
 pub struct Refusal {
     pub number: usize,
     pub place: usize,
@@ -35,7 +36,7 @@ pub struct Refusal {
 }
 
 // The answer of a layout: placed, or refused with its number, its place and the ring's length.
-#[derive(Drop)]
+#[derive(Clone, Copy)]
 pub enum Answer {
     Placed,
     Refused(Refusal),

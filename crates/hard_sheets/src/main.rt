@@ -1,3 +1,4 @@
+#![tactic(auto)]
 // Lays out sheets with a ring, sheets on which a gap lacks less than doubles see, and sheets that the proposal settles, each from three
 // carried records. Tells of each call whether the outer loop ran, and the answer; at the end, in how many it ran. Each sheet has a line
 // with its name in front and a byte 0, which none has, behind. The sheets `family ..` and `hair ..` are first ones of the Rust tests.

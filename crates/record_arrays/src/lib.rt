@@ -1,3 +1,4 @@
+#![tactic(auto)]
 // The calls that are lent records, for a caller that has the records in an array.
 // A function that makes a reference to records is a walk by hand, so each of these lends the front of its array
 // and does nothing else.

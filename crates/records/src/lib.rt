@@ -1,3 +1,4 @@
+#![tactic(auto)]
 // Lays out a sheet whose gaps are lent as one list of records.
 ghost use Rattle.std.specs.Prelude.{◌≡◌, ◌≤◌, length};
 ghost use Rattle.sheet_checks.specs.Lent.{records_lent, room_lent};

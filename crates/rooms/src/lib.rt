@@ -1,3 +1,4 @@
+#![tactic(auto)]
 // The layout calls as functions of values: buffers that hold one number go in, and come back as the call left them.
 ghost use Rattle.std.specs.Prelude.{◌≡◌, take};
 ghost use Rattle.sheet_checks.specs.Lent.{sheet_lent};
@@ -15,7 +16,7 @@ use record_arrays::{RECORDS, lay_out_array, lay_out_both_array};
 pub type RecordBytes = [u8; RECORDS];
 
 // What a call writes, and the carried record.
-#[derive(Drop)]
+#[derive(Clone, Copy)]
 pub struct Room {
     pub place_num: LabelInts,
     pub place_den: LabelInts,
@@ -27,14 +28,14 @@ pub struct Room {
 }
 
 // What a call answers and leaves.
-#[derive(Drop)]
+#[derive(Clone, Copy)]
 pub struct Laid {
     pub answer: Answer,
     pub room: Room,
 }
 
 // The same of two calls: one is lent lists, the other records.
-#[derive(Drop)]
+#[derive(Clone, Copy)]
 pub struct Pair {
     pub lists: Laid,
     pub records: Laid,

@@ -1,12 +1,12 @@
 -- What a station lends (document 01; document 02, Item 6), and the sheet that it tells.
 use Rattle.std.specs.Prelude.{ℕ, List, length, get_or, ℤ}
-use Rattle.std.specs.Borrow.{Bor}
+use Rattle.std.specs.Borrow.{Bor, MutBor}
 use denote.Triple.Both.{Both}
 use Rattle.ground.specs.declared.GapRecord.{GapRecord}
 use Rattle.ground.specs.declared.Label.{Label}
 use Rattle.ground.specs.declared.GapNumber.{GapNumber}
 use Rattle.ground.specs.Entries.{nat, int, no_record}
-use Rattle.ground.specs.Views.{Param}
+use Rattle.ground.specs.Views.{Param, MutParam}
 use Rattle.exact.specs.declared.Fraction.{Fraction}
 use Rattle.exact.specs.Fraction.{fraction_at}
 use Rattle.least_move.specs.Sheet.{Sheet, Gap, kind_of, label}
@@ -88,7 +88,7 @@ records_lent wanted weight gaps =
     record { wanted = wanted.entry.now; weight = weight.entry.now; gaps = records gaps.entry.now }
 
 abbrev pub room_now :
-    (carried : Bor (List ℕ)) (place_num place_den mult_num mult_den : Bor (List ℤ)) (ring back : Bor (List ℕ)) → Written
+    (carried : MutBor (List ℕ)) (place_num place_den mult_num mult_den : MutBor (List ℤ)) (ring back : MutBor (List ℕ)) → Written
 room_now carried place_num place_den mult_num mult_den ring back = record {
   place_num = place_num.now;
   place_den = place_den.now;
@@ -101,7 +101,7 @@ room_now carried place_num place_den mult_num mult_den ring back = record {
 
 -- at entry and at exit
 abbrev pub room_lent :
-    (carried : Param ℕ) (place_num place_den mult_num mult_den : Param ℤ) (ring back : Param ℕ) → Both Written Written
+    (carried : MutParam ℕ) (place_num place_den mult_num mult_den : MutParam ℤ) (ring back : MutParam ℕ) → Both Written Written
 room_lent carried place_num place_den mult_num mult_den ring back = record {
   entry =
       room_now carried.entry place_num.entry place_den.entry

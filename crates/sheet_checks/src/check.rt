@@ -12,7 +12,7 @@ use ground::limits::{
 };
 
 // The sizes of what is lent besides the lists that are read.
-#[derive(Drop)]
+#[derive(Clone, Copy)]
 pub struct Room {
     pub places: usize,
     pub place_dens: usize,

@@ -1,9 +1,10 @@
+#![tactic(auto)]
 // One run of a station: a sheet's text in, its listing out.
 ghost use Rattle.std.specs.Prelude.{◌≤◌, length};
 ghost use Rattle.text_listing.specs.Listing.{Within, listable_lent, listable_now, listing, listing_room};
 ghost use Rattle.sheet_run.specs.Steps.{Holds, Answered, Printed, PrintedRead};
 ghost use Rattle.sheet_run.specs.Run.{Run};
-ghost use Rattle.text_reading.specs.Texts.{lists_lent, lists_now};
+ghost use Rattle.text_reading.specs.Texts.{shared_lent, shared_now};
 
 use ground::Answer;
 use ground::limits::{GAPS, LABELS};
@@ -26,10 +27,10 @@ fn lay_out_read(
     place_num: &mut [i64],
     place_den: &mut [i64],
 ) -> Answer
-    requires { let l = lists_now wanted weight left right distance kind in
+    requires { let l = shared_now wanted weight left right distance kind in
         Holds counts l }
-    ensures { let l = lists_lent wanted weight left right distance kind in
-        Answered counts l.entry place_num.old place_den.old result place_num.new place_den.new }
+    ensures { let l = shared_lent wanted weight left right distance kind in
+        Answered counts l place_num.old place_den.old result place_num.new place_den.new }
 {
     let labels = counts.labels;
     let gaps = counts.gaps;
@@ -91,9 +92,9 @@ fn print_read(
     kind: &[u8],
     out: &mut [u8; LISTING_ROOM],
 ) -> usize
-    requires { Holds counts (lists_now wanted weight left right distance kind) }
-    ensures { let l = lists_lent wanted weight left right distance kind in
-        PrintedRead counts l.entry out.old result out.new }
+    requires { Holds counts (shared_now wanted weight left right distance kind) }
+    ensures { let l = shared_lent wanted weight left right distance kind in
+        PrintedRead counts l out.old result out.new }
 {
     let labels = counts.labels;
     let gaps = counts.gaps;

@@ -1,3 +1,4 @@
+#![tactic(auto)]
 // The entries over single fractions: rounding, by two rules for halves, and the slack of a gap. Any numbers may be given.
 use exact::Fraction;
 use ground::Refusal;
@@ -8,21 +9,21 @@ pub mod round;
 pub mod slack;
 
 // Where halves go: away from zero, or up to the larger number.
-#[derive(Drop)]
+#[derive(Clone, Copy)]
 pub enum Ties {
     AwayFromZero,
     Up,
 }
 
 // The answer of a rounding: the whole unit, or a refusal.
-#[derive(Drop)]
+#[derive(Clone, Copy)]
 pub enum Rounded {
     Whole(i64),
     Refused(Refusal),
 }
 
 // The slack of a gap, or a refusal.
-#[derive(Drop)]
+#[derive(Clone, Copy)]
 pub enum SlackAnswer {
     Slack(Fraction),
     Refused(Refusal),

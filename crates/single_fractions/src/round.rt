@@ -43,7 +43,7 @@ impl Rounded {
 }
 
 // The remainder of a magnitude against half.
-#[derive(Drop)]
+#[derive(Clone, Copy)]
 pub(crate) enum Half {
     Under,
     At,

@@ -3,7 +3,7 @@ ghost use Rattle.std.specs.Prelude.{◌≡◌};
 ghost use Rattle.station.specs.Input.{answered, Within};
 
 // What reading comes to: so many bytes at the front of the buffer, or a failure.
-#[derive(Drop)]
+#[derive(Clone, Copy)]
 pub(crate) enum Input {
     Read(usize),
     Failed,

@@ -1,3 +1,4 @@
+#![tactic(auto)]
 // The station program: the text of a sheet from standard input, its listing to standard output. Where the text cannot
 // be read, or the listing not be written whole, one line on standard error says so.
 mod input;

@@ -1,3 +1,4 @@
+#![tactic(auto)]
 // Prints the listings of many texts. Each has a line with its name in front and a byte 0, which no sheet has, behind;
 // stdout was worked out apart from this program.
 // Every refusal is there but 3, 4 and 23, which no text can bring about (the lists of a run belong together and have

@@ -1,3 +1,4 @@
+#![tactic(auto)]
 // The listing of an answer.
 use ground::Refusal;
 
@@ -11,7 +12,7 @@ pub const REFUSED_ROOM: usize = 72;
 pub const LISTING_ROOM: usize = 24576;
 
 // The answer of the listing: so many bytes written, or a refusal.
-#[derive(Drop)]
+#[derive(Clone, Copy)]
 pub enum Listed {
     Written(usize),
     Refused(Refusal),

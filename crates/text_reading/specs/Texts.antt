@@ -15,8 +15,8 @@ use Rattle.text_rows.specs.Lines.{lines}
 use Rattle.text_rows.specs.Taking.{no_field, taken}
 use Rattle.ground.specs.Limits.{gaps_most, labels_most}
 use denote.Triple.Both.{Both}
-use Rattle.ground.specs.Views.{Param}
-use Rattle.std.specs.Borrow.{Bor}
+use Rattle.ground.specs.Views.{Param, MutParam}
+use Rattle.std.specs.Borrow.{Bor, MutBor}
 
 -- the labels and the gaps of a text, each in the order of their records; "a gap may come before the labels it names". "Gaps
 -- are numbered in the order of their records", those of both kinds together: "an exact gap counts once towards 192"
@@ -123,7 +123,7 @@ reading text b = cond (ltb text_most (length text)) (refused_with 11 0 no_field 
 -- ---- the lent lists: as a `requires` sees them, and at entry and exit as an `ensures` does
 
 abbrev pub lists_now :
-    (wanted weight : Bor (List ℤ)) (left right : Bor (List ℕ)) (distance : Bor (List ℤ)) (kind : Bor (List ℕ)) → Lists
+    (wanted weight : MutBor (List ℤ)) (left right : MutBor (List ℕ)) (distance : MutBor (List ℤ)) (kind : MutBor (List ℕ)) → Lists
 lists_now wanted weight left right distance kind = record {
   wanted = wanted.now;
   weight = weight.now;
@@ -134,8 +134,26 @@ lists_now wanted weight left right distance kind = record {
 }
 
 abbrev pub lists_lent :
-    (wanted weight : Param ℤ) (left right : Param ℕ) (distance : Param ℤ) (kind : Param ℕ) → Both Lists Lists
+    (wanted weight : MutParam ℤ) (left right : MutParam ℕ) (distance : MutParam ℤ) (kind : MutParam ℕ) → Both Lists Lists
 lists_lent wanted weight left right distance kind = record {
   entry = lists_now wanted.entry weight.entry left.entry right.entry distance.entry kind.entry;
   exit = lists_now wanted.exit weight.exit left.exit right.exit distance.exit kind.exit;
 }
+
+-- ---- the same of lists that are lent to read
+
+abbrev pub shared_now :
+    (wanted weight : Bor (List ℤ)) (left right : Bor (List ℕ)) (distance : Bor (List ℤ)) (kind : Bor (List ℕ)) → Lists
+shared_now wanted weight left right distance kind = record {
+  wanted = wanted.now;
+  weight = weight.now;
+  left = left.now;
+  right = right.now;
+  distance = distance.now;
+  kind = kind.now;
+}
+
+abbrev pub shared_lent :
+    (wanted weight : Param ℤ) (left right : Param ℕ) (distance : Param ℤ) (kind : Param ℕ) → Lists
+shared_lent wanted weight left right distance kind =
+    shared_now wanted.entry weight.entry left.entry right.entry distance.entry kind.entry

@@ -1,3 +1,4 @@
+#![tactic(auto)]
 // A text of the words label, gap and same, read into lent lists.
 use ground::Refusal;
 
@@ -8,7 +9,7 @@ mod store;
 pub const TEXT_MOST: usize = 16384;
 
 // How many labels and gaps a text has.
-#[derive(Drop)]
+#[derive(Clone, Copy)]
 pub struct Counts {
     pub labels: usize,
     pub gaps: usize,
@@ -16,7 +17,7 @@ pub struct Counts {
 
 // The answer of the reader: a sheet of so many labels and gaps, or a refusal and, beside it, the bad field of its line, if
 // there is one.
-#[derive(Drop)]
+#[derive(Clone, Copy)]
 pub enum Reading {
     Sheet(Counts),
     Refused(Refusal, usize),

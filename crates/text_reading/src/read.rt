@@ -1,6 +1,6 @@
 // Reads a text into lent lists.
 ghost use Rattle.std.specs.Prelude.{◌≡◌, ◌≤◌, length};
-ghost use Rattle.text_reading.specs.Texts.{text_most, outcome, lists_lent, lists_now};
+ghost use Rattle.text_reading.specs.Texts.{text_most, outcome, lists_lent, lists_now, shared_lent, shared_now};
 ghost use Rattle.text_reading.specs.Readings.{refusal};
 ghost use Rattle.text_reading.specs.Parts.{WorkArrays, ScannedBy, judged_by, HandedOver, ReadInto};
 
@@ -14,7 +14,7 @@ use text_rows::rows::take_row;
 use text_rows::{Earlier, NO_FIELD, Taken};
 
 // How many entries each lent list has.
-#[derive(Drop)]
+#[derive(Clone, Copy)]
 pub(crate) struct Room {
     pub wanted: usize,
     pub weight: usize,
@@ -120,10 +120,10 @@ fn hand_over(
     distance: &mut [i64],
     kind: &mut [u8],
 ) -> Reading
-    requires { WorkArrays (lists_now d w u v g k) }
+    requires { WorkArrays (shared_now d w u v g k) }
     ensures { let l = lists_lent wanted weight left right distance kind in
-        let work = lists_lent d w u v g k in
-        HandedOver counts work.entry l.entry result l.exit }
+        let work = shared_lent d w u v g k in
+        HandedOver counts work l.entry result l.exit }
 {
     let room = Room {
         wanted: wanted.len(),

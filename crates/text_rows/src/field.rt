@@ -8,14 +8,14 @@ ghost use Rattle.text_rows.specs.Taking.{same_bytes};
 const DIGITS_MOST: usize = 9;
 
 // What a field tells that takes no sign.
-#[derive(Drop)]
+#[derive(Clone, Copy)]
 pub(crate) enum Natural {
     Value(usize),
     Not,
 }
 
 // What a field tells that may take a sign.
-#[derive(Drop)]
+#[derive(Clone, Copy)]
 pub(crate) enum Integer {
     Value(i64),
     Not,

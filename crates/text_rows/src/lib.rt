@@ -1,3 +1,4 @@
+#![tactic(auto)]
 // The lines of a text, their fields, and the records that they tell.
 ghost use Rattle.std.specs.Prelude.{◌≡◌};
 ghost use Rattle.text_rows.specs.Taking.{refusal_field, refusal_number};
@@ -9,14 +10,14 @@ pub mod lines;
 pub mod rows;
 
 // A label's record: its wanted place and its weight. Its number is the count of labels before it.
-#[derive(Drop)]
+#[derive(Clone, Copy)]
 pub struct LabelRow {
     pub wanted: i64,
     pub weight: i64,
 }
 
 // A record of the text: a label, or a gap of either kind, whose word is gap or same.
-#[derive(Drop)]
+#[derive(Clone, Copy)]
 pub enum Row {
     Label(LabelRow),
     Gap(GapRecord),
@@ -26,13 +27,13 @@ pub enum Row {
 pub const NO_FIELD: usize = 0;
 
 // What came before a line: so many labels.
-#[derive(Drop)]
+#[derive(Clone, Copy)]
 pub struct Earlier {
     pub labels: usize,
 }
 
 // What the record reader makes of a line: its record, or a refusal's number and the bad field.
-#[derive(Drop)]
+#[derive(Clone, Copy)]
 pub enum Taken {
     Good(Row),
     Bad(usize, usize),

@@ -1,3 +1,4 @@
+#![tactic(auto)]
 // Makes a layout call of each form, and promises demand 3 and the two laws for moved wants of what they leave.
 ghost use Rattle.sheet_checks.specs.Lent.{records_lent, room_lent, sheet_lent};
 ghost use Rattle.layout.specs.TwoCalls.{BothPromised};
@@ -7,7 +8,7 @@ use layout::lists::lay_out;
 use records::lay_out_records;
 
 // The answers of the two calls.
-#[derive(Drop)]
+#[derive(Clone, Copy)]
 pub struct Both {
     pub first: Answer,
     pub second: Answer,
