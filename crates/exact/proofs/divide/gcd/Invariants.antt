@@ -1,3 +1,4 @@
+-- The greatest common divisor of what is left is that of the two numbers given. The measure is the second number left.
 use Rattle.std.proofs.Common.{ℕ}
 use Rattle.exact.specs.Divide.{GreatestCommonDivisor}
 use Rattle.exact.proofs.divide.gcd.Given as goal
