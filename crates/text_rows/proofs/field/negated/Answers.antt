@@ -1,0 +1,26 @@
+-- `text_rows::field::negated` meets its contract: the number fits with its sign.
+use Rattle.std.proofs.Common.{◌≡◌}
+use Rattle.std.proofs.Math.Option.{some}
+use Rattle.text_rows.specs.Numeral.{number}
+use Rattle.text_rows.proofs.DigitLaws.{number_small}
+use Rattle.text_rows.proofs.AnswerLaws.{natural_some, plain_fits, negated_fits, negated_bits}
+use Rattle.text_rows.proofs.field.negated.Goals as goal
+
+pub overflow_cast-result : goal.overflow_cast-result
+overflow_cast-result c =
+    let value = c.in-Value.value in
+    plain_fits value (number_small c.args.field.now value
+    (natural_some (number c.args.field.now) c.number.ensures c.in-Value.is))
+
+pub overflow_sub-result : goal.overflow_sub-result
+overflow_sub-result c =
+    let value = c.in-Value.value in
+    negated_fits value (number_small c.args.field.now value
+    (natural_some (number c.args.field.now) c.number.ensures c.in-Value.is))
+
+pub returns : goal.returns
+returns c =
+    let value = c.in-Value.value in
+    let told : number c.args.field.now ≡ some value =
+    natural_some (number c.args.field.now) c.number.ensures c.in-Value.is in
+    rw (told, negated_bits value (number_small c.args.field.now value told))
