@@ -1,5 +1,5 @@
 -- What the parts of the reader promise to each other.
-use Rattle.std.specs.Prelude.{ℕ, ◌+◌, ◌≤◌, ◌≡◌, Bool, cond, ◌&&◌, List, [], map, ltb, leb, length, take, set}
+use Rattle.std.specs.Prelude.{ℕ, ◌+◌, ◌≤◌, ◌≡◌, Bool, cond, ◌&&◌, List, map, ltb, leb, length, take, set}
 use Rattle.text_rows.specs.declared.Row.{Row}
 use Rattle.text_rows.specs.declared.Row.TheVariants.{Label, Gap}
 use Rattle.text_rows.specs.Taking.{no_field}
