@@ -200,5 +200,5 @@ sum_bound (suc n) f B h = omega (arith, nat_abs-+ (sum n f) (f n), sum_bound n f
 -- The equations run to the left: there each function stands bare, and `simp` finds it.
 -- A difference needs none of its own: `a -ℤ b` computes to `a +ℤ neg_ℤ b`.
 -- An identity is `simp sums (sum_cong n _ _ (λ i h. ..))`, with a `ring` for the terms.
--- With sum-zero where one side is zero, sum-le for an order, sum-cong2 or sum-swap-cong for sums in sums.
+-- With sum_zero where one side is zero, sum_le for an order, sum_cong2 or sum_swap_cong for sums in sums.
 pub ruleset sums = (← sum-+, ← sum_neg, ← sum_*, ← sum_*r)

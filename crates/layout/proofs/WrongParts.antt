@@ -122,7 +122,7 @@ module _ (f : Form) (part : Part) where
       ap (λ (after : Written). nat_abs (place_of after (label 0)).den) (sym stays) ∙ ap (λ (q : Fraction). nat_abs q.den) ((P1-so keeps).places (label 0) (lit< tt)) in
       omega arith
 
-  -- one that tells a made_up ring length: P7 needs two gaps
+  -- one that tells a made-up ring length: P7 needs two gaps
   pub makes_up_ring : (w : Written) → LentWith f P7.sheet w → ring_length_of (part (lend f P7.sheet) w).0 ≢ 2 → ¬ (Keeps f part)
   makes_up_ring w l made_up keeps = made_up (ap ring_length_of (P7-rings f w _ _ l (kept f part keeps P7.sheet w)).answered)
 

@@ -35,7 +35,7 @@ abbrev pub lend : Form → bench.Written → Read
 lend f s = record { wanted = s.wants; weight = s.weights; gaps = lend_gaps f s.gaps }
 
 -- sheets lent with as many wants, the same weights and the same gaps, in either form each, differ in wants only
--- (`lent_Alike` in proofs/BenchCalls)
+-- (`lent_alike` in proofs/BenchCalls)
 abbrev pub LentAlike : Type 0
 LentAlike =
     (f f' : Form) (s s' : bench.Written) → length s'.wants ≡ length s.wants → s'.weights ≡ s.weights →

@@ -57,7 +57,7 @@ pub record Rate (N s c W r q load change : ℤ) : Type 0 where
   pub loaded : W *ℤ load ≡ N *ℤ r -ℤ s *ℤ q
   pub changing : W *ℤ change ≡ pos 0 -ℤ c *ℤ q
 
--- The advance that a fraction R / P names: the state is scaled by c·P and moved by N-as-R − P·s.
+-- The advance that a fraction R / P names: the state is scaled by c·P and moved by N·R − P·s.
 rate_sum : (N s c W r q l h P R : ℤ) → W *ℤ l ≡ N *ℤ r -ℤ s *ℤ q → W *ℤ h ≡ pos 0 -ℤ c *ℤ q → W *ℤ (c *ℤ P *ℤ l +ℤ (N *ℤ R -ℤ P *ℤ s) *ℤ h) ≡ c *ℤ (N *ℤ (r *ℤ P -ℤ R *ℤ q))
 rate_sum N s c W r q l h P R p e =
     ring (N ∷ s ∷ c ∷ W ∷ l ∷ h ∷ P ∷ R ∷ []) (search quotes depth 12) (search quotes depth 12) refl

@@ -29,7 +29,7 @@ Meets-at at_least s = pos 0 ≤ℤ s
 Meets-at exactly s = s ≡ pos 0
 Meets-at ignored s = Unit {0}
 
--- an at_least gap: it is met, its multiplier is not below zero, and one of the two is zero
+-- an at-least gap: it is met, its multiplier is not below zero, and one of the two is zero
 pub record Pressed (l s : ℤ) : Type 0 where
   pub meets : pos 0 ≤ℤ s
   pub carries : pos 0 ≤ℤ l

@@ -19,7 +19,7 @@ use Rattle.sheet_checks.specs.declared.Checked.{Checked}
 use Rattle.sheet_checks.specs.declared.Checked.TheVariants.{Pass, Refused}
 use Rattle.sheet_checks.specs.declared.check.Room.{Room}
 use Rattle.sheet_checks.specs.Lent.{Read, lists}
-use Rattle.sheet_checks.specs.Refusals.{Row, first_of, in_turn, refuse, offender_below, offender, size_tests, table_of, outside, unequal}
+use Rattle.sheet_checks.specs.Refusals.{Row, first_refusal, in_turn, refuse, offender_below, offender, size_tests, table_of, outside, unequal}
 use Rattle.sheet_checks.specs.Refusals.{ragged_sizes, uneven_sizes, short, neither, bad_weight, bad_gap, bad_kind, rows, table_for}
 use Rattle.sheet_checks.specs.Checks.{list_in_range, lists_of_labels, list_of_kinds, Even, contents_of}
 use Rattle.sheet_checks.proofs.Passed.{or_clear, same_of_not, test_pass, turn_pass}
@@ -41,7 +41,7 @@ module _ (number : ℕ) (bad : ℕ → Bool) where
   first_below k (suc n) h clear e = at (ltb k n) refl (λ l. first_below k n l clear e)
     where
       at : (t : Bool) → ltb k n ≡ t → (k < n → refuse number k ≡ offender_below number n bad)
-          → refuse number k ≡ first_of (offender_below number n bad) (cond (bad n) (refuse number n) Pass)
+          → refuse number k ≡ first_refusal (offender_below number n bad) (cond (bad n) (refuse number n) Pass)
       at true t before = rw (sym (before (ltb-true k n t)))
       at false t before =
           let same : n ≡ k = omega (arith, ltb-false k n t) in
@@ -145,26 +145,26 @@ module _ (kind : List ℕ) (k : ℕ) (kinded : Kinded kind k) where
 -- ---- one check after another
 
 -- a refusal ends the checks
-pub ends : {r c : Checked} {q : Refusal} (later : Checked) → r ≡ Refused q → r ≡ c → r ≡ first_of c later
-ends later e f = e ∙ ap (λ (x : Checked). first_of x later) (sym e ∙ f)
+pub ends : {r c : Checked} {q : Refusal} (later : Checked) → r ≡ Refused q → r ≡ c → r ≡ first_refusal c later
+ends later e f = e ∙ ap (λ (x : Checked). first_refusal x later) (sym e ∙ f)
 
 -- a pass goes on to the later ones
-pub goes_on : {r c d : Checked} (later : Checked) → r ≡ Pass → r ≡ c → d ≡ later → d ≡ first_of c later
-goes_on later e f g = g ∙ ap (λ (x : Checked). first_of x later) (sym e ∙ f)
+pub goes_on : {r c d : Checked} (later : Checked) → r ≡ Pass → r ≡ c → d ≡ later → d ≡ first_refusal c later
+goes_on later e f g = g ∙ ap (λ (x : Checked). first_refusal x later) (sym e ∙ f)
 
 -- the last
-pub alone : (c : Checked) → c ≡ first_of c Pass
+pub alone : (c : Checked) → c ≡ first_refusal c Pass
 alone Pass = refl
 alone (Refused q) = refl
 
-first_of_first : (a b c : Checked) → first_of a (first_of b c) ≡ first_of (first_of a b) c
+first_of_first : (a b c : Checked) → first_refusal a (first_refusal b c) ≡ first_refusal (first_refusal a b) c
 first_of_first Pass b c = refl
 first_of_first (Refused q) b c = refl
 
 -- some checks, and then others
-turns : (cs ds : List Checked) → in_turn (cs ++ ds) ≡ first_of (in_turn cs) (in_turn ds)
+turns : (cs ds : List Checked) → in_turn (cs ++ ds) ≡ first_refusal (in_turn cs) (in_turn ds)
 turns [] ds = refl
-turns (c ∷ cs) ds = ap (first_of c) (turns cs ds) ∙ first_of_first c (in_turn cs) (in_turn ds)
+turns (c ∷ cs) ds = ap (first_refusal c) (turns cs ds) ∙ first_of_first c (in_turn cs) (in_turn ds)
 
 -- ---- the checks of a sheet
 
@@ -185,7 +185,7 @@ module _ (wanted weight : List ℤ) (left right : List ℕ) (distance : List ℤ
 
   -- the table is the sizes' checks, and then the contents'
   pub table_parts : (room : Room)
-      → first_of (in_turn (size_tests (length wanted) (length left) (raggedly room.carried) (short (length wanted) (length left) room))) (contents_of sheet)
+      → first_refusal (in_turn (size_tests (length wanted) (length left) (raggedly room.carried) (short (length wanted) (length left) room))) (contents_of sheet)
       ≡ table_for sheet room
   unfolding table_of
   table_parts room =

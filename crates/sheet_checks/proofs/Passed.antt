@@ -20,7 +20,7 @@ use Rattle.ground.specs.Limits.{gaps_most, labels_most, weight_least, weight_mos
 use Rattle.sheet_checks.specs.declared.Checked.{Checked}
 use Rattle.sheet_checks.specs.declared.Checked.TheVariants.{Pass, Refused}
 use Rattle.sheet_checks.specs.Lent.{Read, Written, label_count, gap_count, record_at, sheet_of}
-use Rattle.sheet_checks.specs.Refusals.{Row, refuse, first_of, in_turn, test, offender_below, offender, size_tests, table_of, unequal, outside}
+use Rattle.sheet_checks.specs.Refusals.{Row, refuse, first_refusal, in_turn, test, offender_below, offender, size_tests, table_of, unequal, outside}
 use Rattle.sheet_checks.specs.Refusals.{neither, room_of, ragged, short, off_plate, bad_weight, stranger, bad_gap, bad_kind, rows, table}
 
 -- a refusal is no pass
@@ -33,7 +33,7 @@ test_pass number true e = absurd (not_pass e)
 test_pass number false e = refl
 
 -- of two checks that passed each did
-pub first_pass : (c later : Checked) → first_of c later ≡ Pass → (c ≡ Pass) × (later ≡ Pass)
+pub first_pass : (c later : Checked) → first_refusal c later ≡ Pass → (c ≡ Pass) × (later ≡ Pass)
 first_pass Pass later e = (refl, e)
 first_pass (Refused q) later e = absurd (not_pass e)
 
@@ -65,7 +65,7 @@ pub offender_same : (number : ℕ) (bad bad' : ℕ → Bool) (n : ℕ) → ((k :
 unfolding offender_below
 offender_same number bad bad' zero same = refl
 offender_same number bad bad' (suc n) same =
-    ap₂ (λ (c : Checked) (b : Bool). first_of c (cond b (refuse number n) Pass)) (offender_same number bad bad' n (λ k h. same k (omega arith))) (same n (omega arith))
+    ap₂ (λ (c : Checked) (b : Bool). first_refusal c (cond b (refuse number n) Pass)) (offender_same number bad bad' n (λ k h. same k (omega arith))) (same n (omega arith))
 
 pub or_clear : (a b : Bool) → (a || b) ≡ false → (a ≡ false) × (b ≡ false)
 or_clear true b e = absurd (let z : ◌≡◌ {A = ℕ} 0 1 = cc in omega arith)

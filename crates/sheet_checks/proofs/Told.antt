@@ -11,7 +11,7 @@ use Rattle.ground.specs.Entries.{Each}
 use Rattle.ground.specs.Limits.{gaps_most, labels_most}
 use Rattle.sheet_checks.specs.declared.Checked.{Checked}
 use Rattle.sheet_checks.specs.declared.Checked.TheVariants.{Pass, Refused}
-use Rattle.sheet_checks.specs.Refusals.{Row, refuse, first_of, in_turn, test, offender_below, offender, table_of}
+use Rattle.sheet_checks.specs.Refusals.{Row, refuse, first_refusal, in_turn, test, offender_below, offender, table_of}
 
 module _ (P : Refusal → Type 0) where
   -- it holds of what a check refuses, if it refuses
@@ -19,7 +19,7 @@ module _ (P : Refusal → Type 0) where
   Told Pass = Unit {0}
   Told (Refused q) = P q
 
-  first_told : (c later : Checked) → Told c → Told later → Told (first_of c later)
+  first_told : (c later : Checked) → Told c → Told later → Told (first_refusal c later)
   first_told Pass later a b = b
   first_told (Refused q) later a b = a
 

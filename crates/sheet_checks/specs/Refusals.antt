@@ -27,14 +27,14 @@ abbrev pub refuse : (number place : ℕ) → Checked
 refuse number place = Refused (refused_at number place)
 
 -- of two checks the first that refuses
-abbrev pub first_of : Checked → Checked → Checked
-first_of Pass later = later
-first_of (Refused r) later = Refused r
+abbrev pub first_refusal : Checked → Checked → Checked
+first_refusal Pass later = later
+first_refusal (Refused r) later = Refused r
 
 -- "Checks run in this order .. by number, each over the whole sheet before the next"
 abbrev pub in_turn : List Checked → Checked
 in_turn [] = Pass
-in_turn (c ∷ later) = first_of c (in_turn later)
+in_turn (c ∷ later) = first_refusal c (in_turn later)
 
 -- a check whose place is 0
 abbrev pub test : ℕ → Bool → Checked
@@ -49,7 +49,7 @@ pub record Row : Type 0 where
 -- "the place is the first offender": the first of n that is bad
 unfoldable pub offender_below : (number n : ℕ) → (ℕ → Bool) → Checked
 offender_below number zero bad = Pass
-offender_below number (suc n) bad = first_of (offender_below number n bad) (cond (bad n) (refuse number n) Pass)
+offender_below number (suc n) bad = first_refusal (offender_below number n bad) (cond (bad n) (refuse number n) Pass)
 
 abbrev pub offender : Row → Checked
 offender row = offender_below row.number row.count row.bad
