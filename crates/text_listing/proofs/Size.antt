@@ -9,7 +9,7 @@ use lib.IntN.{ℤ, nat_abs}
 use mir.Syntax.{w64}
 use mir.Val.{Fits, SFits}
 use Rattle.ground.specs.declared.Refusal.{Refusal}
-use Rattle.single_fractions.specs.declared.Rounded.TheVariants.{Whole, Refused}
+use Rattle.single_fractions.specs.declared.Rounded.TheVariants.{Whole}
 use Rattle.exact.specs.declared.Fraction.{Fraction}
 use Rattle.single_fractions.specs.Places.{within_places}
 use Rattle.exact.specs.Nearest.{round_half_up}
