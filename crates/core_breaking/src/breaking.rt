@@ -91,8 +91,7 @@ pub fn least_break(
     requires { Breakable count queue.now via.now held.now share.now
         × ((sign ≡ pos 1) ⊎ (sign ≡ negsuc 0)) }
     ensures { result ≡ least_break count
-        (candidate_of sign queue.now via.now left.now right.now kind.now held.now (before
-        share)) }
+        (candidate_of sign queue.now via.now left.now right.now kind.now held.now share.now) }
 {
     let mut best = Break::Nothing;
     let mut k: usize = 1;
