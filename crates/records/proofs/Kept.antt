@@ -168,6 +168,7 @@ module _ (wanted weight : List ℤ) (count : ℕ) (kept : List GapRecord) (w : W
 
       even : (b : Bool) → T b → (not b || not b || not b) ≡ false
       even true t = refl
+      even false t = elim t [ ]
 
       same : SameGaps (lists (take count left) (take count right) (take count distance) (take count kind)) (records gs)
       same = record { count = sizes.0 ∙ sym keeps.counted; even = rw (sizes.0, sizes.1, sizes.2, sizes.3) (even (eqb count count) (eqb_refl count)); gap = gaps }
