@@ -1,7 +1,6 @@
 #![tactic(auto)]
 // The calls that are lent records, for a caller that has the records in an array.
-// A function that makes a reference to records is a walk by hand, so each of these lends the front of its array
-// and does nothing else.
+// Each of these lends the front of its array and does nothing else.
 ghost use Rattle.sheet_checks.specs.Lent.{room_lent, sheet_lent};
 ghost use Rattle.layout.specs.Promise.{Promise};
 ghost use Rattle.layout.specs.TwoCalls.{BothPromised};
