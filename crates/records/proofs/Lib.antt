@@ -1,2 +1,1 @@
-pub mod HandedOn
 pub mod Kept
