@@ -235,12 +235,12 @@ module _ {p : Problem} {mark : List ℕ} {a b : ℕ} {one two : Side} {at₁ que
     none_left : NoLater (At e R P) one.first → (c : ℕ) → c < p.gaps → marks_of mark c ≡ true → is_seen at₁ (nat p.left c) ≡ true → kind_of (nat p.kind c) ≡ at_least → pos 0 <ℤ q₁ c → (R *ℤ q₁ c) ≤ℤ (r₁ c *ℤ P)
     none_left n c l m s kd q =
         let k = candidate_left lim f₁ indep refl c l m s kd q in
-        cross (before_all lim f₁ (At e R P) above n k.0 k.1 k.2) refl k.3
+        cross {e = e} (before_all lim f₁ (At e R P) above n k.0 k.1 k.2) refl k.3
 
     none_right : NoLater (At e R P) two.first → (c : ℕ) → c < p.gaps → marks_of mark c ≡ true → is_seen at₂ (nat p.left c) ≡ true → kind_of (nat p.kind c) ≡ at_least → q₂ c <ℤ pos 0 → (R *ℤ (pos 0 -ℤ q₂ c)) ≤ℤ (r₂ c *ℤ P)
     none_right n c l m s kd q =
         let k = candidate_right lim f₂ indep refl c l m s kd q in
-        cross (before_all lim f₂ (At e R P) above n k.0 k.1 k.2) refl k.3
+        cross {e = e} (before_all lim f₂ (At e R P) above n k.0 k.1 k.2) refl k.3
 
   -- ---- what gives way
 

@@ -21,7 +21,7 @@ use Rattle.least_move.proofs.Flow.{at_label}
 use Rattle.least_move.proofs.Sides.{BlockSide}
 use Rattle.ground.specs.Entries.{nat, int}
 use Rattle.core_elimination.specs.Block.{numerator, surplus_at, only_at}
-use Rattle.core_elimination.proofs.TreeFlow.{is_seen, toward, Hangs, away, back, along, eqb_sym, root_in, root_seen, hangs, via_seen, along_at, along_only, parent_gaps_all, mean_at, tree_sum}
+use Rattle.core_elimination.proofs.TreeFlow.{is_seen, toward, Hangs, away, back, along, eqb_sym, root_seen, hangs, via_seen, along_at, along_only, parent_gaps_all, mean_at, tree_sum}
 use Rattle.core_breaking.specs.declared.Break.TheVariants.{At}
 use Rattle.core_breaking.specs.declared.Side.{Side}
 use Rattle.core_breaking.specs.Breaking.{candidate_of, losing_end}
