@@ -2,7 +2,6 @@
 -- are lent. The laws for moved wants alone do not ask for a least move: a layout that stays as it was meets them. So the promise
 -- of each call stands beside them. Nothing cites them.
 use mathlib.Core.Path.{◌≡◌, sym, ◌∙◌, ap}
-use mathlib.Core.List.{[]}
 use native.Mathlib.Omega.{arith}
 use Prim.Native.Nat.{ℕ}
 use lib.Dec.{lit<}

@@ -1,6 +1,6 @@
 -- What a layout call owes: its number, its place and every lent entry afterwards (document 01,
 -- "What a station lends", "Refusal table", "What is owed by each public entry"; document 02, Item 6).
-use Rattle.std.specs.Prelude.{ℕ, suc, ◌*◌, ◌≤◌, ◌<◌, ◌≡◌, ◌⊎◌, Bool, List, [], ◌∷◌, eqb, length, get_or, take, nat_abs}
+use Rattle.std.specs.Prelude.{ℕ, suc, ◌*◌, ◌≤◌, ◌<◌, ◌≡◌, ◌⊎◌, Bool, List, ◌∷◌, eqb, length, get_or, take, nat_abs}
 use Rattle.exact.specs.Fraction.{LowestTerms}
 use Rattle.ground.specs.Limits.{place_den_most, place_most}
 use Rattle.ground.specs.declared.Answer.{Answer}
