@@ -1,5 +1,5 @@
 -- The outer loop: from a forest that is in balance to one at which every gap holds, or to a ring.
-use Rattle.std.specs.Prelude.{ℕ, ◌≤◌, ◌<◌, Bool, true, false, List, [], take, ℤ, pos, ◌-ℤ◌, ◌≡◌}
+use Rattle.std.specs.Prelude.{ℕ, ◌≤◌, ◌<◌, Bool, true, false, List, take, ℤ, pos, ◌-ℤ◌, ◌≡◌}
 use Rattle.least_move.specs.Sheet.{label}
 use Rattle.least_move.specs.States.{measure}
 use Rattle.ground.specs.Entries.{nat, int}
