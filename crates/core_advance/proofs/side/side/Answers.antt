@@ -1,5 +1,5 @@
 -- Each call finds what those before it left, and the laws of a searched block bound it.
-use Rattle.std.proofs.Common.{◌<◌, arith, to_z-of_z}
+use Rattle.std.proofs.Common.{arith, to_z-of_z}
 use Rattle.core_elimination.proofs.Ranges.{sums_read}
 use Rattle.core_elimination.proofs.SearchedBlock.{block_ordered, block_listed, block_range, block_sums, surplus_light}
 use Rattle.core_advance.proofs.EndBlock.{shares_moderate, moderate_small, block_breakable}
@@ -23,8 +23,7 @@ surplus-requires c =
 pub shared-joined-requires : goal.shared-joined-requires
 shared-joined-requires c =
     let lim = c.requires.0 in
-    let other_in : c.args.other.0 < 48 = omega (arith, lim.labels_bound, c.requires.2) in
-    (block_listed lim c.search_along-count.ensures.0, other_in)
+    (block_listed lim c.search_along-count.ensures.0, omega (arith, lim.labels_bound, c.requires.1, c.requires.2))
 
 pub eliminate-requires : goal.eliminate-requires
 eliminate-requires c =
