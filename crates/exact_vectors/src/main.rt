@@ -13,19 +13,17 @@ use ground::signs::magnitude;
 use single_fractions::round::round;
 use single_fractions::slack::slack;
 use single_fractions::{Rounded, Ties};
+use std::io;
 
 // Writes a number in decimal, with a minus sign where it is below zero.
-fn print_signed(x: i64) {
-    if x < 0 {
-        io::write_all(1, b"-");
-    }
-    io::print_decimal(1, magnitude(x));
+fn print_signed(rt: &impl Print, x: i64) -> io::Result<()> {
+    print!(rt; "{x}")
 }
 
-fn print_fraction(num: i64, den: i64) {
-    print_signed(num);
-    io::write_all(1, b"/");
-    print_signed(den);
+fn print_fraction(rt: &impl Print, num: i64, den: i64) -> io::Result<()> {
+    print_signed(rt, num)?;
+    print!(rt; "/")?;
+    print_signed(rt, den)
 }
 
 // Whether the comparison takes a fraction.
@@ -41,338 +39,342 @@ fn within(num: i64, den: i64) -> bool
     magnitude(num) <= FRACTION_NUM_MOST
 }
 
-fn show_gcd(a: u64, b: u64) {
-    io::write_all(1, b"gcd ");
-    io::print_decimal(1, a);
-    io::write_all(1, b" ");
-    io::print_decimal(1, b);
-    io::write_all(1, b" = ");
-    io::print_decimal(1, gcd(a, b));
-    io::write_all(1, b"\n");
+fn show_gcd(rt: &impl Print, a: u64, b: u64) -> io::Result<()> {
+    let divisor = gcd(a, b);
+    println!(rt; "gcd {a} {b} = {divisor}")
 }
 
-fn show_lowest(num: i64, den: i64) {
-    io::write_all(1, b"lowest ");
-    print_fraction(num, den);
+fn show_lowest(rt: &impl Print, num: i64, den: i64) -> io::Result<()> {
+    print!(rt; "lowest ")?;
+    print_fraction(rt, num, den)?;
     if den < 1 {
-        io::write_all(1, b" not taken\n");
-        return;
+        return println!(rt; " not taken");
     }
     let q = lowest(num, den);
-    io::write_all(1, b" = ");
-    print_fraction(q.num, q.den);
-    io::write_all(1, b"\n");
+    print!(rt; " = ")?;
+    print_fraction(rt, q.num, q.den)?;
+    println!(rt)
 }
 
-fn print_order(order: Order) {
+fn print_order(rt: &impl Print, order: Order) -> io::Result<()> {
     match order {
-        Order::Below => io::write_all(1, b" below\n"),
-        Order::Same => io::write_all(1, b" same\n"),
-        Order::Above => io::write_all(1, b" above\n"),
-    };
+        Order::Below => println!(rt; " below"),
+        Order::Same => println!(rt; " same"),
+        Order::Above => println!(rt; " above"),
+    }
 }
 
-fn show_compare(a: i64, b: i64, c: i64, d: i64) {
-    io::write_all(1, b"compare ");
-    print_fraction(a, b);
-    io::write_all(1, b" ");
-    print_fraction(c, d);
+fn show_compare(rt: &impl Print, a: i64, b: i64, c: i64, d: i64) -> io::Result<()> {
+    print!(rt; "compare ")?;
+    print_fraction(rt, a, b)?;
+    print!(rt; " ")?;
+    print_fraction(rt, c, d)?;
     if within(a, b) {
         if within(c, d) {
-            print_order(compare(Fraction { num: a, den: b }, Fraction { num: c, den: d }));
-            return;
+            let order = compare(Fraction { num: a, den: b }, Fraction { num: c, den: d });
+            return print_order(rt, order);
         }
     }
-    io::write_all(1, b" not taken\n");
+    println!(rt; " not taken")
 }
 
-fn print_rounded(answer: Rounded) {
-    io::write_all(1, b" = ");
-    print_signed(answer.whole());
-    io::write_all(1, b" number ");
-    io::print_decimal(1, answer.number() as u64);
-    io::write_all(1, b" place ");
-    io::print_decimal(1, answer.place() as u64);
-    io::write_all(1, b"\n");
+fn print_rounded(rt: &impl Print, answer: Rounded) -> io::Result<()> {
+    print!(rt; " = ")?;
+    print_signed(rt, answer.whole())?;
+    let number = answer.number();
+    let place = answer.place();
+    println!(rt; " number {number} place {place}")
 }
 
-fn show_round(num: i64, den: i64) {
-    io::write_all(1, b"round ");
-    print_fraction(num, den);
-    print_rounded(round(Ties::AwayFromZero, num, den));
-    io::write_all(1, b"half up ");
-    print_fraction(num, den);
-    print_rounded(round(Ties::Up, num, den));
+fn show_round(rt: &impl Print, num: i64, den: i64) -> io::Result<()> {
+    print!(rt; "round ")?;
+    print_fraction(rt, num, den)?;
+    print_rounded(rt, round(Ties::AwayFromZero, num, den))?;
+    print!(rt; "half up ")?;
+    print_fraction(rt, num, den)?;
+    print_rounded(rt, round(Ties::Up, num, den))
 }
 
-fn show_slack(a: i64, b: i64, c: i64, d: i64, distance: i64) {
-    io::write_all(1, b"slack ");
-    print_fraction(a, b);
-    io::write_all(1, b" ");
-    print_fraction(c, d);
-    io::write_all(1, b" ");
-    print_signed(distance);
+fn show_slack(rt: &impl Print, a: i64, b: i64, c: i64, d: i64, distance: i64) -> io::Result<()> {
+    print!(rt; "slack ")?;
+    print_fraction(rt, a, b)?;
+    print!(rt; " ")?;
+    print_fraction(rt, c, d)?;
+    print!(rt; " ")?;
+    print_signed(rt, distance)?;
     let answer = slack(
         Fraction { num: a, den: b },
         Fraction { num: c, den: d },
         distance,
     );
     let q = answer.slack();
-    io::write_all(1, b" = ");
-    print_fraction(q.num, q.den);
-    io::write_all(1, b" number ");
-    io::print_decimal(1, answer.number() as u64);
-    io::write_all(1, b" place ");
-    io::print_decimal(1, answer.place() as u64);
-    io::write_all(1, b"\n");
+    print!(rt; " = ")?;
+    print_fraction(rt, q.num, q.den)?;
+    let number = answer.number();
+    let place = answer.place();
+    println!(rt; " number {number} place {place}")
 }
 
-fn divisors() {
-    show_gcd(0, 0);
-    show_gcd(0, 7);
-    show_gcd(7, 0);
-    show_gcd(1, 1);
-    show_gcd(12, 18);
-    show_gcd(18, 12);
-    show_gcd(17, 5);
-    show_gcd(4800, 5472000000);
-    show_gcd(9223372036854775808, 6);
-    show_gcd(18446744073709551615, 18446744073709551615);
-    show_gcd(18446744073709551615, 18446744073709551614);
-    show_gcd(12200160415121876738, 7540113804746346429);
+fn divisors(rt: &impl Print) -> io::Result<()> {
+    show_gcd(rt, 0, 0)?;
+    show_gcd(rt, 0, 7)?;
+    show_gcd(rt, 7, 0)?;
+    show_gcd(rt, 1, 1)?;
+    show_gcd(rt, 12, 18)?;
+    show_gcd(rt, 18, 12)?;
+    show_gcd(rt, 17, 5)?;
+    show_gcd(rt, 4800, 5472000000)?;
+    show_gcd(rt, 9223372036854775808, 6)?;
+    show_gcd(rt, 18446744073709551615, 18446744073709551615)?;
+    show_gcd(rt, 18446744073709551615, 18446744073709551614)?;
+    show_gcd(rt, 12200160415121876738, 7540113804746346429)
 }
 
-fn lowest_terms() {
-    show_lowest(0, 1);
-    show_lowest(0, 6);
-    show_lowest(6, 4);
-    show_lowest(-6, 4);
-    show_lowest(7, 5);
-    show_lowest(-7, 1);
-    show_lowest(5472000000, 4800);
-    show_lowest(-9223372036854775808, 1);
-    show_lowest(-9223372036854775808, 6);
-    show_lowest(-9223372036854775808, 9223372036854775807);
-    show_lowest(9223372036854775807, 9223372036854775807);
-    show_lowest(9223372036854775807, 7);
-    show_lowest(-1, 9223372036854775807);
-    show_lowest(1, 0);
-    show_lowest(1, -1);
+fn lowest_terms(rt: &impl Print) -> io::Result<()> {
+    show_lowest(rt, 0, 1)?;
+    show_lowest(rt, 0, 6)?;
+    show_lowest(rt, 6, 4)?;
+    show_lowest(rt, -6, 4)?;
+    show_lowest(rt, 7, 5)?;
+    show_lowest(rt, -7, 1)?;
+    show_lowest(rt, 5472000000, 4800)?;
+    show_lowest(rt, -9223372036854775808, 1)?;
+    show_lowest(rt, -9223372036854775808, 6)?;
+    show_lowest(rt, -9223372036854775808, 9223372036854775807)?;
+    show_lowest(rt, 9223372036854775807, 9223372036854775807)?;
+    show_lowest(rt, 9223372036854775807, 7)?;
+    show_lowest(rt, -1, 9223372036854775807)?;
+    show_lowest(rt, 1, 0)?;
+    show_lowest(rt, 1, -1)
 }
 
-fn comparisons() {
-    show_compare(1, 2, 2, 3);
-    show_compare(2, 3, 1, 2);
-    show_compare(1, 2, 2, 4);
-    show_compare(-1, 2, -2, 3);
-    show_compare(-2, 3, -1, 2);
-    show_compare(-1, 2, -2, 4);
-    show_compare(-1, 2, 1, 2);
-    show_compare(1, 2, -1, 2);
-    show_compare(0, 1, 0, 518400);
-    show_compare(0, 5, -1, 518400);
-    show_compare(7, 2, 3, 1);
-    show_compare(-7, 2, -3, 1);
-    show_compare(-7, 2, -4, 1);
-    show_compare(518399, 518400, 518398, 518399);
-    show_compare(-518399, 518400, -518398, 518399);
+fn comparisons(rt: &impl Print) -> io::Result<()> {
+    show_compare(rt, 1, 2, 2, 3)?;
+    show_compare(rt, 2, 3, 1, 2)?;
+    show_compare(rt, 1, 2, 2, 4)?;
+    show_compare(rt, -1, 2, -2, 3)?;
+    show_compare(rt, -2, 3, -1, 2)?;
+    show_compare(rt, -1, 2, -2, 4)?;
+    show_compare(rt, -1, 2, 1, 2)?;
+    show_compare(rt, 1, 2, -1, 2)?;
+    show_compare(rt, 0, 1, 0, 518400)?;
+    show_compare(rt, 0, 5, -1, 518400)?;
+    show_compare(rt, 7, 2, 3, 1)?;
+    show_compare(rt, -7, 2, -3, 1)?;
+    show_compare(rt, -7, 2, -4, 1)?;
+    show_compare(rt, 518399, 518400, 518398, 518399)?;
+    show_compare(rt, -518399, 518400, -518398, 518399)
 }
 
-fn comparisons_at_limits() {
-    show_compare(4611686018427387904, 1, 4611686018427387904, 518400);
-    show_compare(-4611686018427387904, 1, 4611686018427387904, 1);
-    show_compare(4611686018427387904, 518400, 4611686018427387903, 518400);
-    show_compare(-4611686018427387904, 518399, -4611686018427387904, 518400);
-    show_compare(-4611686018427387904, 518400, -4611686018427387904, 518400);
-    show_compare(4611686018427387905, 1, 0, 1);
-    show_compare(0, 1, -4611686018427387905, 1);
-    show_compare(0, 518401, 0, 1);
-    show_compare(0, 1, 0, 0);
-    show_compare(0, -1, 0, 1);
+fn comparisons_at_limits(rt: &impl Print) -> io::Result<()> {
+    show_compare(rt, 4611686018427387904, 1, 4611686018427387904, 518400)?;
+    show_compare(rt, -4611686018427387904, 1, 4611686018427387904, 1)?;
+    show_compare(rt, 4611686018427387904, 518400, 4611686018427387903, 518400)?;
+    show_compare(
+        rt,
+        -4611686018427387904,
+        518399,
+        -4611686018427387904,
+        518400,
+    )?;
+    show_compare(
+        rt,
+        -4611686018427387904,
+        518400,
+        -4611686018427387904,
+        518400,
+    )?;
+    show_compare(rt, 4611686018427387905, 1, 0, 1)?;
+    show_compare(rt, 0, 1, -4611686018427387905, 1)?;
+    show_compare(rt, 0, 518401, 0, 1)?;
+    show_compare(rt, 0, 1, 0, 0)?;
+    show_compare(rt, 0, -1, 0, 1)
 }
 
-fn zero_or_above() {
-    io::write_all(1, b"zero or above, under half\n");
-    show_round(0, 1);
-    show_round(0, 4800);
-    show_round(1, 3);
-    show_round(1, 4800);
-    show_round(4, 2);
-    show_round(6, 3);
-    show_round(7, 3);
-    show_round(2399, 4799);
-    show_round(2399, 4800);
-    show_round(11999, 4800);
-    show_round(5471999762, 4799);
-    io::write_all(1, b"zero or above, at half\n");
-    show_round(1, 2);
-    show_round(3, 2);
-    show_round(5, 2);
-    show_round(9, 2);
-    show_round(2400, 4800);
-    show_round(12000, 4800);
-    show_round(5471997600, 4800);
-    show_round(5471999999, 2);
-    io::write_all(1, b"zero or above, over half\n");
-    show_round(2, 3);
-    show_round(8, 3);
-    show_round(2400, 4799);
-    show_round(2401, 4800);
-    show_round(12001, 4800);
-    show_round(5471999763, 4799);
-    show_round(5471999999, 3);
+fn zero_or_above(rt: &impl Print) -> io::Result<()> {
+    println!(rt; "zero or above, under half")?;
+    show_round(rt, 0, 1)?;
+    show_round(rt, 0, 4800)?;
+    show_round(rt, 1, 3)?;
+    show_round(rt, 1, 4800)?;
+    show_round(rt, 4, 2)?;
+    show_round(rt, 6, 3)?;
+    show_round(rt, 7, 3)?;
+    show_round(rt, 2399, 4799)?;
+    show_round(rt, 2399, 4800)?;
+    show_round(rt, 11999, 4800)?;
+    show_round(rt, 5471999762, 4799)?;
+    println!(rt; "zero or above, at half")?;
+    show_round(rt, 1, 2)?;
+    show_round(rt, 3, 2)?;
+    show_round(rt, 5, 2)?;
+    show_round(rt, 9, 2)?;
+    show_round(rt, 2400, 4800)?;
+    show_round(rt, 12000, 4800)?;
+    show_round(rt, 5471997600, 4800)?;
+    show_round(rt, 5471999999, 2)?;
+    println!(rt; "zero or above, over half")?;
+    show_round(rt, 2, 3)?;
+    show_round(rt, 8, 3)?;
+    show_round(rt, 2400, 4799)?;
+    show_round(rt, 2401, 4800)?;
+    show_round(rt, 12001, 4800)?;
+    show_round(rt, 5471999763, 4799)?;
+    show_round(rt, 5471999999, 3)
 }
 
-fn below_zero() {
-    io::write_all(1, b"below zero, under half\n");
-    show_round(-1, 3);
-    show_round(-1, 4800);
-    show_round(-4, 2);
-    show_round(-6, 3);
-    show_round(-7, 3);
-    show_round(-2399, 4799);
-    show_round(-2399, 4800);
-    show_round(-11999, 4800);
-    show_round(-5471999762, 4799);
-    io::write_all(1, b"below zero, at half\n");
-    show_round(-1, 2);
-    show_round(-3, 2);
-    show_round(-5, 2);
-    show_round(-9, 2);
-    show_round(-2400, 4800);
-    show_round(-12000, 4800);
-    show_round(-5471997600, 4800);
-    show_round(-5471999999, 2);
-    io::write_all(1, b"below zero, over half\n");
-    show_round(-2, 3);
-    show_round(-8, 3);
-    show_round(-2400, 4799);
-    show_round(-2401, 4800);
-    show_round(-12001, 4800);
-    show_round(-5471999763, 4799);
-    show_round(-5471999999, 3);
+fn below_zero(rt: &impl Print) -> io::Result<()> {
+    println!(rt; "below zero, under half")?;
+    show_round(rt, -1, 3)?;
+    show_round(rt, -1, 4800)?;
+    show_round(rt, -4, 2)?;
+    show_round(rt, -6, 3)?;
+    show_round(rt, -7, 3)?;
+    show_round(rt, -2399, 4799)?;
+    show_round(rt, -2399, 4800)?;
+    show_round(rt, -11999, 4800)?;
+    show_round(rt, -5471999762, 4799)?;
+    println!(rt; "below zero, at half")?;
+    show_round(rt, -1, 2)?;
+    show_round(rt, -3, 2)?;
+    show_round(rt, -5, 2)?;
+    show_round(rt, -9, 2)?;
+    show_round(rt, -2400, 4800)?;
+    show_round(rt, -12000, 4800)?;
+    show_round(rt, -5471997600, 4800)?;
+    show_round(rt, -5471999999, 2)?;
+    println!(rt; "below zero, over half")?;
+    show_round(rt, -2, 3)?;
+    show_round(rt, -8, 3)?;
+    show_round(rt, -2400, 4799)?;
+    show_round(rt, -2401, 4800)?;
+    show_round(rt, -12001, 4800)?;
+    show_round(rt, -5471999763, 4799)?;
+    show_round(rt, -5471999999, 3)
 }
 
-fn limits() {
-    io::write_all(1, b"at the limits of 12 and past them\n");
-    show_round(1, 0);
-    show_round(1, 1);
-    show_round(1, -1);
-    show_round(1, 4800);
-    show_round(1, 4801);
-    show_round(5472000000, 1);
-    show_round(5472000001, 1);
-    show_round(-5472000000, 1);
-    show_round(-5472000001, 1);
-    show_round(5472000000, 4800);
-    show_round(-5472000000, 4800);
-    show_round(5472000000, 4799);
-    show_round(5472000001, 4801);
-    show_round(5472000000, 4801);
-    show_round(-5472000001, 0);
+fn limits(rt: &impl Print) -> io::Result<()> {
+    println!(rt; "at the limits of 12 and past them")?;
+    show_round(rt, 1, 0)?;
+    show_round(rt, 1, 1)?;
+    show_round(rt, 1, -1)?;
+    show_round(rt, 1, 4800)?;
+    show_round(rt, 1, 4801)?;
+    show_round(rt, 5472000000, 1)?;
+    show_round(rt, 5472000001, 1)?;
+    show_round(rt, -5472000000, 1)?;
+    show_round(rt, -5472000001, 1)?;
+    show_round(rt, 5472000000, 4800)?;
+    show_round(rt, -5472000000, 4800)?;
+    show_round(rt, 5472000000, 4799)?;
+    show_round(rt, 5472000001, 4801)?;
+    show_round(rt, 5472000000, 4801)?;
+    show_round(rt, -5472000001, 0)
 }
 
-fn ends() {
-    show_round(9223372036854775807, 1);
-    show_round(-9223372036854775808, 1);
-    show_round(1, 9223372036854775807);
-    show_round(1, -9223372036854775808);
-    show_round(-9223372036854775808, -9223372036854775808);
-    show_round(-9223372036854775808, -1);
-    show_round(9223372036854775807, 9223372036854775807);
-    show_round(0, -9223372036854775808);
+fn ends(rt: &impl Print) -> io::Result<()> {
+    show_round(rt, 9223372036854775807, 1)?;
+    show_round(rt, -9223372036854775808, 1)?;
+    show_round(rt, 1, 9223372036854775807)?;
+    show_round(rt, 1, -9223372036854775808)?;
+    show_round(rt, -9223372036854775808, -9223372036854775808)?;
+    show_round(rt, -9223372036854775808, -1)?;
+    show_round(rt, 9223372036854775807, 9223372036854775807)?;
+    show_round(rt, 0, -9223372036854775808)
 }
 
-fn slacks() {
-    show_slack(-3, 2, 9, 2, 6);
-    show_slack(6, 4, 10, 4, 1);
-    show_slack(1, 2, 1, 3, 0);
-    show_slack(1, 3, 1, 2, 0);
-    show_slack(2, 4, 2, 4, -1);
-    show_slack(2, 4, 2, 4, 1);
-    show_slack(0, 1, 0, 1, 0);
-    show_slack(0, 4800, 0, 4799, 0);
-    show_slack(-9, 2, -3, 2, 3);
-    show_slack(-9, 2, -3, 2, 4);
-    show_slack(-3, 2, -9, 2, -2);
-    show_slack(12, 8, -20, 16, -3);
-    show_slack(7, 3, 9, 4, -1);
-    show_slack(1, 4799, 1, 4800, 0);
-    show_slack(1, 4800, 1, 4799, 0);
-    show_slack(-1, 4800, 1, 4800, 0);
+fn slacks(rt: &impl Print) -> io::Result<()> {
+    show_slack(rt, -3, 2, 9, 2, 6)?;
+    show_slack(rt, 6, 4, 10, 4, 1)?;
+    show_slack(rt, 1, 2, 1, 3, 0)?;
+    show_slack(rt, 1, 3, 1, 2, 0)?;
+    show_slack(rt, 2, 4, 2, 4, -1)?;
+    show_slack(rt, 2, 4, 2, 4, 1)?;
+    show_slack(rt, 0, 1, 0, 1, 0)?;
+    show_slack(rt, 0, 4800, 0, 4799, 0)?;
+    show_slack(rt, -9, 2, -3, 2, 3)?;
+    show_slack(rt, -9, 2, -3, 2, 4)?;
+    show_slack(rt, -3, 2, -9, 2, -2)?;
+    show_slack(rt, 12, 8, -20, 16, -3)?;
+    show_slack(rt, 7, 3, 9, 4, -1)?;
+    show_slack(rt, 1, 4799, 1, 4800, 0)?;
+    show_slack(rt, 1, 4800, 1, 4799, 0)?;
+    show_slack(rt, -1, 4800, 1, 4800, 0)
 }
 
-fn slacks_at_limits() {
-    show_slack(-5472000000, 4799, 5472000000, 4800, -20000);
-    show_slack(5472000000, 4800, -5472000000, 4799, 20000);
-    show_slack(-5472000000, 1, 5472000000, 1, -20000);
-    show_slack(5472000000, 1, -5472000000, 1, 20000);
-    show_slack(5472000000, 1, 5472000000, 1, 0);
-    show_slack(-5472000000, 4799, -5472000000, 4800, 0);
-    show_slack(1, 4800, 1, 1, 0);
-    show_slack(1, 1, 1, 4800, 0);
-    show_slack(0, 1, 0, 1, 20000);
-    show_slack(0, 1, 0, 1, -20000);
-    show_slack(0, 1, 20000, 1, 20000);
-    show_slack(1, 4800, 20000, 1, 20000);
+fn slacks_at_limits(rt: &impl Print) -> io::Result<()> {
+    show_slack(rt, -5472000000, 4799, 5472000000, 4800, -20000)?;
+    show_slack(rt, 5472000000, 4800, -5472000000, 4799, 20000)?;
+    show_slack(rt, -5472000000, 1, 5472000000, 1, -20000)?;
+    show_slack(rt, 5472000000, 1, -5472000000, 1, 20000)?;
+    show_slack(rt, 5472000000, 1, 5472000000, 1, 0)?;
+    show_slack(rt, -5472000000, 4799, -5472000000, 4800, 0)?;
+    show_slack(rt, 1, 4800, 1, 1, 0)?;
+    show_slack(rt, 1, 1, 1, 4800, 0)?;
+    show_slack(rt, 0, 1, 0, 1, 20000)?;
+    show_slack(rt, 0, 1, 0, 1, -20000)?;
+    show_slack(rt, 0, 1, 20000, 1, 20000)?;
+    show_slack(rt, 1, 4800, 20000, 1, 20000)
 }
 
-fn slacks_past_limits() {
-    show_slack(1, 0, 1, 1, 30000);
-    show_slack(1, 0, 1, 1, 0);
-    show_slack(1, 1, 1, 0, 0);
-    show_slack(1, -1, 1, 1, 0);
-    show_slack(1, 1, 1, -1, 0);
-    show_slack(5472000001, 1, 0, 1, 0);
-    show_slack(0, 1, 5472000001, 1, 0);
-    show_slack(-5472000001, 1, 0, 1, 0);
-    show_slack(0, 1, -5472000001, 1, 0);
-    show_slack(0, 4801, 0, 1, 0);
-    show_slack(0, 1, 0, 4801, 0);
-    show_slack(0, 1, 0, 1, 20001);
-    show_slack(0, 1, 0, 1, -20001);
-    show_slack(0, 1, 0, 4801, 20001);
-    show_slack(5472000001, 4801, -5472000001, 0, -20001);
+fn slacks_past_limits(rt: &impl Print) -> io::Result<()> {
+    show_slack(rt, 1, 0, 1, 1, 30000)?;
+    show_slack(rt, 1, 0, 1, 1, 0)?;
+    show_slack(rt, 1, 1, 1, 0, 0)?;
+    show_slack(rt, 1, -1, 1, 1, 0)?;
+    show_slack(rt, 1, 1, 1, -1, 0)?;
+    show_slack(rt, 5472000001, 1, 0, 1, 0)?;
+    show_slack(rt, 0, 1, 5472000001, 1, 0)?;
+    show_slack(rt, -5472000001, 1, 0, 1, 0)?;
+    show_slack(rt, 0, 1, -5472000001, 1, 0)?;
+    show_slack(rt, 0, 4801, 0, 1, 0)?;
+    show_slack(rt, 0, 1, 0, 4801, 0)?;
+    show_slack(rt, 0, 1, 0, 1, 20001)?;
+    show_slack(rt, 0, 1, 0, 1, -20001)?;
+    show_slack(rt, 0, 1, 0, 4801, 20001)?;
+    show_slack(rt, 5472000001, 4801, -5472000001, 0, -20001)
 }
 
-fn slacks_at_ends() {
-    show_slack(-9223372036854775808, 1, 0, 1, 0);
-    show_slack(0, 1, -9223372036854775808, 1, 0);
-    show_slack(0, -9223372036854775808, 0, 1, 0);
-    show_slack(0, 1, 0, -9223372036854775808, 0);
-    show_slack(0, 1, 0, 1, -9223372036854775808);
+fn slacks_at_ends(rt: &impl Print) -> io::Result<()> {
+    show_slack(rt, -9223372036854775808, 1, 0, 1, 0)?;
+    show_slack(rt, 0, 1, -9223372036854775808, 1, 0)?;
+    show_slack(rt, 0, -9223372036854775808, 0, 1, 0)?;
+    show_slack(rt, 0, 1, 0, -9223372036854775808, 0)?;
+    show_slack(rt, 0, 1, 0, 1, -9223372036854775808)?;
     show_slack(
+        rt,
         -9223372036854775808,
         -9223372036854775808,
         -9223372036854775808,
         -9223372036854775808,
         -9223372036854775808,
-    );
-    show_slack(9223372036854775807, 1, 0, 1, 0);
-    show_slack(0, 1, 9223372036854775807, 1, 0);
-    show_slack(0, 9223372036854775807, 0, 1, 0);
-    show_slack(0, 1, 0, 9223372036854775807, 0);
-    show_slack(0, 1, 0, 1, 9223372036854775807);
+    )?;
+    show_slack(rt, 9223372036854775807, 1, 0, 1, 0)?;
+    show_slack(rt, 0, 1, 9223372036854775807, 1, 0)?;
+    show_slack(rt, 0, 9223372036854775807, 0, 1, 0)?;
+    show_slack(rt, 0, 1, 0, 9223372036854775807, 0)?;
+    show_slack(rt, 0, 1, 0, 1, 9223372036854775807)?;
     show_slack(
+        rt,
         9223372036854775807,
         9223372036854775807,
         9223372036854775807,
         9223372036854775807,
         9223372036854775807,
-    );
+    )
 }
 
-fn main() {
-    divisors();
-    lowest_terms();
-    comparisons();
-    comparisons_at_limits();
-    zero_or_above();
-    below_zero();
-    limits();
-    ends();
-    slacks();
-    slacks_at_limits();
-    slacks_past_limits();
-    slacks_at_ends();
+fn main(rt: HostRuntime) -> io::Result<()> {
+    divisors(&rt)?;
+    lowest_terms(&rt)?;
+    comparisons(&rt)?;
+    comparisons_at_limits(&rt)?;
+    zero_or_above(&rt)?;
+    below_zero(&rt)?;
+    limits(&rt)?;
+    ends(&rt)?;
+    slacks(&rt)?;
+    slacks_at_limits(&rt)?;
+    slacks_past_limits(&rt)?;
+    slacks_at_ends(&rt)
 }
