@@ -4,105 +4,102 @@
 // sheet has, behind.
 ghost use Rattle.std.specs.Prelude.{◌≤◌, length};
 
+use console::{INPUT_MOST, read_full};
 use ground::limits::{GAPS, GapBytes, LABELS};
 use ground::signs::magnitude;
 use ground::{Answer, Refusal};
 use layout::lists::lay_out;
+use std::io;
 use text_reading::Reading;
 use text_reading::read::read_sheet;
 
 // Writes a fraction: a space, the numerator, and the denominator where it is not 1.
-fn print_fraction(num: i64, den: i64) {
-    io::write_all(1, b" ");
-    if num < 0 {
-        io::write_all(1, b"-");
-    }
-    io::print_decimal(1, magnitude(num));
+fn print_fraction(rt: &impl Print, num: i64, den: i64) -> io::Result<()> {
+    print!(rt; " {num}")?;
     if den != 1 {
-        io::write_all(1, b"/");
-        io::print_decimal(1, magnitude(den));
+        let below = magnitude(den);
+        print!(rt; "/{below}")?;
     }
+    Ok(())
 }
 
 // Writes the first fractions in a line.
-fn print_fractions(count: usize, num: &[i64], den: &[i64]) {
+fn print_fractions(rt: &impl Print, count: usize, num: &[i64], den: &[i64]) -> io::Result<()> {
     let mut i: usize = 0;
     while i < count {
         if i < num.len() {
             if i < den.len() {
-                print_fraction(num[i], den[i]);
+                print_fraction(rt, num[i], den[i])?;
             }
         }
         i += 1;
     }
-    io::write_all(1, b"\n");
+    println!(rt)
 }
 
 // Writes the numbers of the marked gaps in a line.
-fn print_marks(carried: &[u8]) {
+fn print_marks(rt: &impl Print, carried: &[u8]) -> io::Result<()> {
     let mut e: usize = 0;
     while e < carried.len() {
         if carried[e] == 1 {
-            io::write_all(1, b" ");
-            io::print_decimal(1, e as u64);
+            print!(rt; " {e}")?;
         }
         e += 1;
     }
-    io::write_all(1, b"\n");
+    println!(rt)
 }
 
 // Writes the places of so many labels, the multipliers of all gaps, and the marks.
 fn print_placed(
+    rt: &impl Print,
     labels: usize,
     place_num: &[i64],
     place_den: &[i64],
     mult_num: &[i64],
     mult_den: &[i64],
     carried: &[u8],
-) {
-    io::write_all(1, b"  places");
-    print_fractions(labels, place_num, place_den);
-    io::write_all(1, b"  multipliers");
-    print_fractions(carried.len(), mult_num, mult_den);
-    io::write_all(1, b"  marks");
-    print_marks(carried);
+) -> io::Result<()> {
+    print!(rt; "  places")?;
+    print_fractions(rt, labels, place_num, place_den)?;
+    print!(rt; "  multipliers")?;
+    print_fractions(rt, carried.len(), mult_num, mult_den)?;
+    print!(rt; "  marks")?;
+    print_marks(rt, carried)
 }
 
 // Writes a step of a ring: the gap's number, and the word back in front of it where the gap is passed backwards.
-fn print_step(gap: usize, back: u8) {
+fn print_step(rt: &impl Print, gap: usize, back: u8) -> io::Result<()> {
     if back != 0 {
-        io::write_all(1, b" back");
+        print!(rt; " back")?;
     }
-    io::write_all(1, b" ");
-    io::print_decimal(1, gap as u64);
+    print!(rt; " {gap}")
 }
 
 // Writes the steps of a ring in a line.
-fn print_ring(count: usize, ring: &[usize], back: &[u8]) {
+fn print_ring(rt: &impl Print, count: usize, ring: &[usize], back: &[u8]) -> io::Result<()> {
     let mut k: usize = 0;
     while k < count {
         if k < ring.len() {
             if k < back.len() {
-                print_step(ring[k], back[k]);
+                print_step(rt, ring[k], back[k])?;
             }
         }
         k += 1;
     }
-    io::write_all(1, b"\n");
+    println!(rt)
 }
 
 // Writes a refusal with its ring.
-fn print_refusal(refusal: Refusal, ring: &[usize], back: &[u8]) {
-    io::write_all(1, b"  refused ");
-    io::print_decimal(1, refusal.number as u64);
-    io::write_all(1, b" at ");
-    io::print_decimal(1, refusal.place as u64);
-    io::write_all(1, b", ring");
-    print_ring(refusal.ring, ring, back);
+fn print_refusal(rt: &impl Print, refusal: Refusal, ring: &[usize], back: &[u8]) -> io::Result<()> {
+    let number = refusal.number;
+    let place = refusal.place;
+    print!(rt; "  refused {number} at {place}, ring")?;
+    print_ring(rt, refusal.ring, ring, back)
 }
 
 // Lays a sheet out from a carried record, and prints what is answered and left.
 fn show(
+    rt: &impl Print,
     carried: &mut [u8],
     wanted: &[i64],
     weight: &[i64],
@@ -110,7 +107,7 @@ fn show(
     right: &[usize],
     distance: &[i64],
     kind: &[u8],
-) {
+) -> io::Result<()> {
     let mut place_num = [0i64; LABELS];
     let mut place_den = [0i64; LABELS];
     let mut mult_num = [0i64; GAPS];
@@ -134,6 +131,7 @@ fn show(
     );
     match answer {
         Answer::Placed => print_placed(
+            rt,
             wanted.len(),
             &place_num,
             &place_den,
@@ -141,7 +139,7 @@ fn show(
             &mult_den,
             carried,
         ),
-        Answer::Refused(refusal) => print_refusal(refusal, &ring, &back),
+        Answer::Refused(refusal) => print_refusal(rt, refusal, &ring, &back),
     }
 }
 
@@ -158,27 +156,55 @@ fn other_bytes() -> GapBytes {
 
 // Lays a sheet out from records of zeros, of ones and of other bytes.
 fn show_thrice(
+    rt: &impl Print,
     wanted: &[i64],
     weight: &[i64],
     left: &[usize],
     right: &[usize],
     distance: &[i64],
     kind: &[u8],
-) {
+) -> io::Result<()> {
     let n = left.len();
     if GAPS < n {
-        return;
+        return Ok(());
     }
     let mut zeros = [0u8; GAPS];
     let mut ones = [1u8; GAPS];
     let mut mixed = other_bytes();
-    show(&mut zeros[..n], wanted, weight, left, right, distance, kind);
-    show(&mut ones[..n], wanted, weight, left, right, distance, kind);
-    show(&mut mixed[..n], wanted, weight, left, right, distance, kind);
+    show(
+        rt,
+        &mut zeros[..n],
+        wanted,
+        weight,
+        left,
+        right,
+        distance,
+        kind,
+    )?;
+    show(
+        rt,
+        &mut ones[..n],
+        wanted,
+        weight,
+        left,
+        right,
+        distance,
+        kind,
+    )?;
+    show(
+        rt,
+        &mut mixed[..n],
+        wanted,
+        weight,
+        left,
+        right,
+        distance,
+        kind,
+    )
 }
 
 // Reads a sheet's text and lays it out. Every text of the bench is a sheet.
-fn show_text(text: &[u8]) {
+fn show_text(rt: &impl Print, text: &[u8]) -> io::Result<()> {
     let mut wanted = [0i64; LABELS];
     let mut weight = [0i64; LABELS];
     let mut left = [0usize; GAPS];
@@ -195,24 +221,25 @@ fn show_text(text: &[u8]) {
         &mut kind,
     );
     let Reading::Sheet(counts) = found else {
-        return;
+        return Ok(());
     };
     let labels = counts.labels;
     let gaps = counts.gaps;
     if LABELS < labels {
-        return;
+        return Ok(());
     }
     if GAPS < gaps {
-        return;
+        return Ok(());
     }
     show_thrice(
+        rt,
         &wanted[..labels],
         &weight[..labels],
         &left[..gaps],
         &right[..gaps],
         &distance[..gaps],
         &kind[..gaps],
-    );
+    )
 }
 
 // Where the first line ends.
@@ -230,53 +257,55 @@ fn after_name(entry: &[u8]) -> usize
 }
 
 // Prints a sheet's name, and what is answered to it.
-fn show_entry(entry: &[u8]) {
+fn show_entry(rt: &impl Print, entry: &[u8]) -> io::Result<()> {
     let at = after_name(entry);
-    io::write_all(1, &entry[..at]);
-    show_text(&entry[at..]);
+    rt.write_all(&entry[..at])?;
+    show_text(rt, &entry[at..])
 }
 
 // Takes the sheets apart.
-fn show_all(sheets: &[u8]) {
+fn show_all(rt: &impl Print, sheets: &[u8]) -> io::Result<()> {
     let mut start: usize = 0;
     let mut at: usize = 0;
     while at < sheets.len() {
         if sheets[at] == 0 {
-            show_entry(&sheets[start..at]);
+            show_entry(rt, &sheets[start..at])?;
             start = at + 1;
         }
         at += 1;
     }
+    Ok(())
 }
 
 // Sheets that no text can tell: their lists differ in length.
-fn show_unequal() {
-    io::write_all(1, b"lists that differ in length are 3\n");
-    show_thrice(&[0i64, 0], &[1i64], &[], &[], &[], &[]);
-    io::write_all(1, b"fewer kinds than gaps are 3\n");
-    show_thrice(&[0i64, 0], &[1i64, 1], &[0], &[1], &[6i64], &[]);
+fn show_unequal(rt: &impl Print) -> io::Result<()> {
+    println!(rt; "lists that differ in length are 3")?;
+    show_thrice(rt, &[0i64, 0], &[1i64], &[], &[], &[], &[])?;
+    println!(rt; "fewer kinds than gaps are 3")?;
+    show_thrice(rt, &[0i64, 0], &[1i64, 1], &[0], &[1], &[6i64], &[])
 }
 
 // A sheet that no text can tell: the second gap, of this distance, has a kind that is neither.
-fn show_neither(distance: i64) {
+fn show_neither(rt: &impl Print, distance: i64) -> io::Result<()> {
     let distances = [6, distance];
     show_thrice(
+        rt,
         &[0i64, 0],
         &[1i64, 1],
         &[0, 0],
         &[1, 1],
         &distances,
         &[0, 2],
-    );
+    )
 }
 
-fn main() {
-    let mut sheets = io::large_buffer();
-    let got = io::read_full(0, &mut sheets);
-    show_all(&sheets[..got]);
-    show_unequal();
-    io::write_all(1, b"a kind that is neither is 23\n");
-    show_neither(6);
-    io::write_all(1, b"a gap of 20,001 of a kind that is neither is 8\n");
-    show_neither(20001);
+fn main(rt: HostRuntime) -> io::Result<()> {
+    let mut sheets = [0u8; INPUT_MOST];
+    let got = read_full(&mut rt.stdin(), &mut sheets)?;
+    show_all(&rt, &sheets[..got])?;
+    show_unequal(&rt)?;
+    println!(rt; "a kind that is neither is 23")?;
+    show_neither(&rt, 6)?;
+    println!(rt; "a gap of 20,001 of a kind that is neither is 8")?;
+    show_neither(&rt, 20001)
 }
