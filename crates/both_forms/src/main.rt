@@ -8,14 +8,17 @@
 // lends the records.
 // A sheet has a line with its name and a line with its carried record in front, and a byte 0 behind.
 mod compare;
+mod scan;
 
-use bytes::scan::find;
 use compare::{print_laid, print_ring};
+use console::{INPUT_MOST, read_full};
 use ground::GapRecord;
 use ground::limits::{AT_LEAST, GAPS, GapBytes, GapIndices, GapInts, LABELS};
 use layout::part::{back_part, ring_part};
 use record_arrays::RECORDS;
 use rooms::{Laid, RecordBytes, lay_out_room, lay_out_rooms};
+use scan::find;
+use std::io;
 use text_reading::Reading;
 use text_reading::read::read_sheet;
 
@@ -47,6 +50,7 @@ fn records_of(
 
 // Lays a sheet out as records, and prints what is answered and left.
 fn show_alone(
+    rt: &impl Print,
     fill: i64,
     marks: RecordBytes,
     records: [GapRecord; RECORDS],
@@ -54,14 +58,15 @@ fn show_alone(
     weight: &[i64],
     count: u8,
     lists: Laid,
-) {
+) -> io::Result<()> {
     let alone = lay_out_room(fill, marks, wanted, weight, records, count);
-    io::write_all(1, b" records from other marks, beside lists\n");
-    print_laid(wanted.len(), count as usize, alone, lists);
+    println!(rt; " records from other marks, beside lists")?;
+    print_laid(rt, wanted.len(), count as usize, alone, lists)
 }
 
 // Lays a sheet out in both forms, and prints what is answered and left.
 fn show_both(
+    rt: &impl Print,
     marks: RecordBytes,
     records: [GapRecord; RECORDS],
     wanted: &[i64],
@@ -70,25 +75,25 @@ fn show_both(
     right: &[usize],
     distance: &[i64],
     kind: &[u8],
-) {
+) -> io::Result<()> {
     let labels = wanted.len();
     let gaps = left.len();
     if GAPS < gaps {
-        return;
+        return Ok(());
     }
     let count = gaps as u8;
     let pair = lay_out_rooms(
         0, marks, marks, wanted, weight, left, right, distance, kind, records, count,
     );
     let lists = pair.lists;
-    io::write_all(1, b" lists, beside records\n");
+    println!(rt; " lists, beside records")?;
     let other = pair.records;
-    print_laid(labels, gaps, lists, other);
-    show_alone(7, [1u8; RECORDS], records, wanted, weight, count, lists);
+    print_laid(rt, labels, gaps, lists, other)?;
+    show_alone(rt, 7, [1u8; RECORDS], records, wanted, weight, count, lists)
 }
 
 // Reads a sheet's text and lays it out. Every text of the bench is a sheet.
-fn show_text(marks: RecordBytes, text: &[u8]) {
+fn show_text(rt: &impl Print, marks: RecordBytes, text: &[u8]) -> io::Result<()> {
     let mut wanted = [0i64; LABELS];
     let mut weight = [0i64; LABELS];
     let mut left = [0usize; GAPS];
@@ -105,17 +110,18 @@ fn show_text(marks: RecordBytes, text: &[u8]) {
         &mut kind,
     );
     let Reading::Sheet(counts) = found else {
-        return;
+        return Ok(());
     };
     let labels = counts.labels;
     let gaps = counts.gaps;
     if LABELS < labels {
-        return;
+        return Ok(());
     }
     if GAPS < gaps {
-        return;
+        return Ok(());
     }
     show_both(
+        rt,
         marks,
         records_of(left, right, distance, kind),
         &wanted[0..labels],
@@ -124,7 +130,7 @@ fn show_text(marks: RecordBytes, text: &[u8]) {
         &right[0..gaps],
         &distance[0..gaps],
         &kind[0..gaps],
-    );
+    )
 }
 
 // A carried record: marks where the line has a 1.
@@ -144,35 +150,37 @@ fn marks_of(line: &[u8]) -> RecordBytes {
 }
 
 // Prints a sheet's name, and what is answered to it.
-fn show_entry(entry: &[u8]) {
-    let name = find(entry, 0, entry.len(), b'\n');
+fn show_entry(rt: &impl Print, entry: &[u8]) -> io::Result<()> {
+    let name = find(entry, 0, b'\n');
     if name == entry.len() {
-        return;
+        return Ok(());
     }
     let head = name + 1;
-    io::write_all(1, &entry[0..head]);
-    let line = find(entry, head, entry.len(), b'\n');
+    rt.write_all(&entry[0..head])?;
+    let line = find(entry, head, b'\n');
     if line == entry.len() {
-        return;
+        return Ok(());
     }
     let text = line + 1;
-    show_text(marks_of(&entry[head..line]), &entry[text..]);
+    show_text(rt, marks_of(&entry[head..line]), &entry[text..])
 }
 
 // Takes the sheets apart.
-fn show_all(sheets: &[u8]) {
+fn show_all(rt: &impl Print, sheets: &[u8]) -> io::Result<()> {
     let mut at: usize = 0;
     while at < sheets.len() {
-        let end = find(sheets, at, sheets.len(), 0);
-        show_entry(&sheets[at..end]);
+        let end = find(sheets, at, 0);
+        show_entry(rt, &sheets[at..end])?;
         at = end + 1;
     }
+    Ok(())
 }
 
 // The sheet that no text can tell: a gap whose kind is neither.
-fn show_neither() {
-    io::write_all(1, b"a kind that is neither is 23\n");
+fn show_neither(rt: &impl Print) -> io::Result<()> {
+    println!(rt; "a kind that is neither is 23")?;
     show_both(
+        rt,
         [0u8; RECORDS],
         records_of([0usize; GAPS], [1usize; GAPS], [6i64; GAPS], [2u8; GAPS]),
         &[0i64, 0],
@@ -181,30 +189,28 @@ fn show_neither() {
         &[1],
         &[6i64],
         &[2],
-    );
+    )
 }
 
 // The parts of two ring buffers: a length beyond them gives the empty parts.
-fn show_parts() {
+fn show_parts(rt: &impl Print) -> io::Result<()> {
     let ring = [5usize, 6, 7];
     let back = [0u8, 1, 0];
-    io::write_all(
-        1,
-        b"the parts of lengths 2 and 4 of buffers of 5, 6 and 7 and of 0, 1 and 0\n",
-    );
+    println!(rt; "the parts of lengths 2 and 4 of buffers of 5, 6 and 7 and of 0, 1 and 0")?;
     print_ring(
+        rt,
         ring_part(&ring, 2),
         back_part(&back, 2),
         ring_part(&ring, 2),
         back_part(&back, 2),
-    );
-    print_ring(ring_part(&ring, 4), back_part(&back, 4), &[], &[]);
+    )?;
+    print_ring(rt, ring_part(&ring, 4), back_part(&back, 4), &[], &[])
 }
 
-fn main() {
-    let mut sheets = io::large_buffer();
-    let got = io::read_full(0, &mut sheets);
-    show_all(&sheets[0..got]);
-    show_neither();
-    show_parts();
+fn main(rt: HostRuntime) -> io::Result<()> {
+    let mut sheets = [0u8; INPUT_MOST];
+    let got = read_full(&mut rt.stdin(), &mut sheets)?;
+    show_all(&rt, &sheets[0..got])?;
+    show_neither(&rt)?;
+    show_parts(&rt)
 }
