@@ -2,16 +2,18 @@
 // Lays out sheets with a ring, sheets on which a gap lacks less than doubles see, and sheets that the proposal settles, each from three
 // carried records. Tells of each call whether the outer loop ran, and the answer; at the end, in how many it ran. Each sheet has a line
 // with its name in front and a byte 0, which none has, behind. The sheets `family ..` and `hair ..` are first ones of the Rust tests.
-ghost use Rattle.std.specs.Prelude.{◌≤◌, length};
+ghost use Rattle.std.specs.Prelude.{◌≤◌, length, IfOk};
 ghost use Rattle.core_forest.specs.Problem.{Limits, problem_now};
 ghost use Rattle.hard_sheets.specs.Hard.{fronts};
 
+use console::{INPUT_MOST, read_full};
 use core_proposal::propose;
 use ground::Answer;
 use ground::limits::{GAPS, GapBytes, GapIndices, GapInts, LABELS, LabelInts};
 use layout::lists::lay_out;
 use sheet_checks::Checked;
 use sheet_checks::check::{Room, check};
+use std::io;
 use text_reading::Reading;
 use text_reading::read::read_sheet;
 use text_rows::lines::{Cursor, line_at};
@@ -76,34 +78,32 @@ fn answered(
 }
 
 // Writes an answer.
-fn print_answer(answer: Answer) {
+fn print_answer(rt: &impl Print, answer: Answer) -> io::Result<()> {
     match answer {
-        Answer::Placed => {
-            io::write_all(1, b"placed\n");
-        }
+        Answer::Placed => println!(rt; "placed"),
         Answer::Refused(refusal) => {
-            io::write_all(1, b"refused ");
-            io::print_decimal(1, refusal.number as u64);
-            io::write_all(1, b"\n");
+            let number = refusal.number;
+            println!(rt; "refused {number}")
         }
     }
 }
 
 // Writes whether the outer loop runs. Counts 1 where it does.
-fn print_way(runs: bool) -> usize
-    ensures { result ≤ 1 }
+fn print_way(rt: &impl Print, runs: bool) -> io::Result<usize>
+    ensures { IfOk result (λ counted. counted ≤ 1) }
 {
     if runs {
-        io::write_all(1, b"outer loop, ");
-        return 1;
+        print!(rt; "outer loop, ")?;
+        return Ok(1);
     }
-    io::write_all(1, b"proposal, ");
-    0
+    print!(rt; "proposal, ")?;
+    Ok(0)
 }
 
 // Tells of one call whether the outer loop runs, and the answer. Counts 1 where it runs. (Only a local array's part can be lent,
 // so the arrays are taken by value.)
 fn show_call(
+    rt: &impl Print,
     labels: usize,
     gaps: usize,
     left: GapIndices,
@@ -113,9 +113,9 @@ fn show_call(
     wanted: LabelInts,
     weight: LabelInts,
     mut carried: GapBytes,
-) -> usize
+) -> io::Result<usize>
     requires { Limits (fronts labels gaps left right distance kind wanted weight) }
-    ensures { result ≤ 1 }
+    ensures { IfOk result (λ counted. counted ≤ 1) }
 {
     let runs = outer_loop_runs(
         labels, gaps, &left, &right, &distance, &kind, &wanted, &weight, &carried,
@@ -129,9 +129,9 @@ fn show_call(
         &kind[..gaps],
         &mut carried[..gaps],
     );
-    let counted = print_way(runs);
-    print_answer(answer);
-    counted
+    let counted = print_way(rt, runs)?;
+    print_answer(rt, answer)?;
+    Ok(counted)
 }
 
 // A carried record in which every second gap is marked.
@@ -146,21 +146,22 @@ fn every_second() -> GapBytes {
 }
 
 // Writes the name of a call's carried record, and hands the record out: zeros, ones, or every second gap marked.
-fn record_of(call: usize) -> GapBytes {
+fn record_of(rt: &impl Print, call: usize) -> io::Result<GapBytes> {
     if call == 0 {
-        io::write_all(1, b"  zeros: ");
-        return [0u8; GAPS];
+        print!(rt; "  zeros: ")?;
+        return Ok([0u8; GAPS]);
     }
     if call == 1 {
-        io::write_all(1, b"  ones: ");
-        return [1u8; GAPS];
+        print!(rt; "  ones: ")?;
+        return Ok([1u8; GAPS]);
     }
-    io::write_all(1, b"  every second: ");
-    every_second()
+    print!(rt; "  every second: ")?;
+    Ok(every_second())
 }
 
 // Lays a sheet out from three carried records. Counts the calls in which the outer loop ran.
 fn show_sheet(
+    rt: &impl Print,
     labels: usize,
     gaps: usize,
     left: GapIndices,
@@ -169,24 +170,25 @@ fn show_sheet(
     kind: GapBytes,
     wanted: LabelInts,
     weight: LabelInts,
-) -> usize
+) -> io::Result<usize>
     requires { Limits (fronts labels gaps left right distance kind wanted weight) }
-    ensures { result ≤ 3 }
+    ensures { IfOk result (λ ran. ran ≤ 3) }
 {
     let mut ran: usize = 0;
     let mut call: usize = 0;
     while call < 3 {
-        let carried = record_of(call);
+        let carried = record_of(rt, call)?;
         ran += show_call(
-            labels, gaps, left, right, distance, kind, wanted, weight, carried,
-        );
+            rt, labels, gaps, left, right, distance, kind, wanted, weight, carried,
+        )?;
         call += 1;
     }
-    ran
+    Ok(ran)
 }
 
 // Checks a sheet in the front of arrays, and lays it out. Every sheet here passes, and is no longer than they are.
 fn show_read(
+    rt: &impl Print,
     labels: usize,
     gaps: usize,
     left: GapIndices,
@@ -195,14 +197,14 @@ fn show_read(
     kind: GapBytes,
     wanted: LabelInts,
     weight: LabelInts,
-) -> usize
-    ensures { result ≤ 3 }
+) -> io::Result<usize>
+    ensures { IfOk result (λ ran. ran ≤ 3) }
 {
     if LABELS < labels {
-        return 0;
+        return Ok(0);
     }
     if GAPS < gaps {
-        return 0;
+        return Ok(0);
     }
     let room = Room {
         places: labels,
@@ -223,14 +225,16 @@ fn show_read(
         room,
     );
     let Checked::Pass = checked else {
-        return 0;
+        return Ok(0);
     };
-    show_sheet(labels, gaps, left, right, distance, kind, wanted, weight)
+    show_sheet(
+        rt, labels, gaps, left, right, distance, kind, wanted, weight,
+    )
 }
 
 // Reads a sheet's text, and lays the sheet out. Every text here is a sheet.
-fn show_text(text: &[u8]) -> usize
-    ensures { result ≤ 3 }
+fn show_text(rt: &impl Print, text: &[u8]) -> io::Result<usize>
+    ensures { IfOk result (λ ran. ran ≤ 3) }
 {
     let mut wanted = [0i64; LABELS];
     let mut weight = [0i64; LABELS];
@@ -248,9 +252,10 @@ fn show_text(text: &[u8]) -> usize
         &mut kind,
     );
     let Reading::Sheet(counts) = found else {
-        return 0;
+        return Ok(0);
     };
     show_read(
+        rt,
         counts.labels,
         counts.gaps,
         left,
@@ -263,21 +268,21 @@ fn show_text(text: &[u8]) -> usize
 }
 
 // Prints a sheet's name, and what is told of it.
-fn show_entry(entry: &[u8]) -> usize
-    ensures { result ≤ 3 }
+fn show_entry(rt: &impl Print, entry: &[u8]) -> io::Result<usize>
+    ensures { IfOk result (λ ran. ran ≤ 3) }
 {
     if entry.len() == 0 {
-        return 0;
+        return Ok(0);
     }
     let name = line_at(entry, Cursor { at: 0, line: 1 });
     let next = name.next;
     let at = next.at;
-    io::write_all(1, &entry[..at]);
-    show_text(&entry[at..])
+    rt.write_all(&entry[..at])?;
+    show_text(rt, &entry[at..])
 }
 
 // Takes the sheets apart. Counts the calls in which the outer loop ran.
-fn show_all(sheets: &[u8]) -> usize
+fn show_all(rt: &impl Print, sheets: &[u8]) -> io::Result<usize>
     requires { length sheets.now ≤ 65536 }
 {
     let mut ran: usize = 0;
@@ -285,19 +290,17 @@ fn show_all(sheets: &[u8]) -> usize
     let mut at: usize = 0;
     while at < sheets.len() {
         if sheets[at] == 0 {
-            ran += show_entry(&sheets[start..at]);
+            ran += show_entry(rt, &sheets[start..at])?;
             start = at + 1;
         }
         at += 1;
     }
-    ran
+    Ok(ran)
 }
 
-fn main() {
-    let mut sheets = io::large_buffer();
-    let got = io::read_full(0, &mut sheets);
-    let ran = show_all(&sheets[..got]);
-    io::write_all(1, b"calls in which the outer loop ran: ");
-    io::print_decimal(1, ran as u64);
-    io::write_all(1, b"\n");
+fn main(rt: HostRuntime) -> io::Result<()> {
+    let mut sheets = [0u8; INPUT_MOST];
+    let got = read_full(&mut rt.stdin(), &mut sheets)?;
+    let ran = show_all(&rt, &sheets[..got])?;
+    println!(rt; "calls in which the outer loop ran: {ran}")
 }
