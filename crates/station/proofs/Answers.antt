@@ -5,10 +5,9 @@ use mathlib.Core.Bool.{Bool, true, false, true≢false}
 use mathlib.Core.Logic.{◌≢◌}
 use native.Mathlib.Omega.{arith}
 use lib.IntN.{ℤ, pos, negsuc}
-use Rattle.libc.specs.Io.{Moved}
 use Rattle.station.specs.declared.input.Input.{Input}
 use Rattle.station.specs.declared.input.Input.TheVariants.{Read, Failed}
-use Rattle.station.specs.Input.{answered}
+use Rattle.station.specs.Input.{answered, Moved}
 
 count_of : Input → ℕ
 count_of (Read n) = n

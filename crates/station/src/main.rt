@@ -4,7 +4,6 @@
 mod input;
 
 use input::{Input, read_input};
-use libc::{STDERR_FILENO, STDIN_FILENO, STDOUT_FILENO};
 use sheet_run::run_sheet;
 use text_listing::LISTING_ROOM;
 use text_reading::TEXT_MOST;
@@ -13,22 +12,19 @@ use text_reading::TEXT_MOST;
 const TEXT_ROOM: usize = TEXT_MOST + 1;
 
 // Writes what a station prints for a text.
-fn print_sheet(text: &[u8]) {
+fn print_sheet(rt: &(impl Print + Eprint), text: &[u8]) {
     let mut out = [0u8; LISTING_ROOM];
     let size = run_sheet(text, &mut out);
-    if !io::write_all(STDOUT_FILENO, &out[..size]) {
-        io::write_all(
-            STDERR_FILENO,
-            b"station: the listing could not be written\n",
-        );
+    if rt.write_all(&out[..size]).is_err() {
+        let _ = rt.eprintln("station: the listing could not be written");
     }
 }
 
-fn main() {
+fn main(rt: HostRuntime) {
     let mut text = [0u8; TEXT_ROOM];
-    let Input::Read(size) = read_input(STDIN_FILENO, &mut text) else {
-        io::write_all(STDERR_FILENO, b"station: the sheet could not be read\n");
+    let Input::Read(size) = read_input(&mut rt.stdin(), &mut text) else {
+        let _ = rt.eprintln("station: the sheet could not be read");
         return;
     };
-    print_sheet(&text[..size]);
+    print_sheet(&rt, &text[..size]);
 }
