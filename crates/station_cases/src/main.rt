@@ -5,7 +5,9 @@
 // room, and the words of a text name known kinds), and 12, which belongs to single fractions.
 ghost use Rattle.std.specs.Prelude.{◌≤◌, length};
 
+use console::{INPUT_MOST, read_full};
 use sheet_run::run_sheet;
+use std::io;
 use text_listing::LISTING_ROOM;
 
 // Where the first line ends.
@@ -23,29 +25,30 @@ fn after_name(entry: &[u8]) -> usize
 }
 
 // Prints a text's name and its listing.
-fn show(entry: &[u8]) {
+fn show(rt: &impl Print, entry: &[u8]) -> io::Result<()> {
     let mut out = [0u8; LISTING_ROOM];
     let at = after_name(entry);
-    io::write_all(1, &entry[..at]);
+    rt.write_all(&entry[..at])?;
     let size = run_sheet(&entry[at..], &mut out);
-    io::write_all(1, &out[..size]);
+    rt.write_all(&out[..size])
 }
 
 // Takes the texts apart.
-fn show_all(texts: &[u8]) {
+fn show_all(rt: &impl Print, texts: &[u8]) -> io::Result<()> {
     let mut start: usize = 0;
     let mut at: usize = 0;
     while at < texts.len() {
         if texts[at] == 0 {
-            show(&texts[start..at]);
+            show(rt, &texts[start..at])?;
             start = at + 1;
         }
         at += 1;
     }
+    Ok(())
 }
 
-fn main() {
-    let mut texts = io::large_buffer();
-    let got = io::read_full(0, &mut texts);
-    show_all(&texts[..got]);
+fn main(rt: HostRuntime) -> io::Result<()> {
+    let mut texts = [0u8; INPUT_MOST];
+    let got = read_full(&mut rt.stdin(), &mut texts)?;
+    show_all(&rt, &texts[..got])
 }
