@@ -25,7 +25,7 @@ use Rattle.least_move.specs.Placement.{Placement, Holds, Tight}
 use Rattle.least_move.specs.Multipliers.{Multipliers, Conditions, Lawful, counted, as_right, as_left}
 use Rattle.least_move.specs.Marks.{Step, start, finish, Leads, Marks, MarkedRing}
 use Rattle.least_move.specs.Ring.{Ring, Passable, distance_of, distance_sum, OnceLeft, steps_of, IsRing}
-use Rattle.ground.specs.Entries.{nat, int, Each}
+use Rattle.ground.specs.Entries.{nat, int, over, Each}
 use Rattle.core_forest.specs.Problem.{Problem, Limits, marks_of, sheet_from}
 use Rattle.core_balance.specs.Places.{DenMost}
 use Rattle.core_balance.proofs.Placing.{den_limit}
@@ -33,6 +33,7 @@ use Rattle.core_settle.specs.Settle.{RingStands}
 use Rattle.core_project.specs.Core.{Asked, CorePlaced}
 use Rattle.core_project.specs.Project.{Copied, FrontWritten, FractionsWritten, Buffers, Ready, Solved, RingGiven, problem_of}
 use Rattle.ground.proofs.Each.{each_map}
+use Rattle.core_project.proofs.Passes.{copied_by}
 
 -- ---- plain facts
 
@@ -286,6 +287,29 @@ pub record CopiedAll (wanted weight : List ℤ) (left right : List ℕ) (distanc
   pub rights_in : Copied (length right) right rights 0
   pub distances_in : Copied (length distance) distance distances (pos 0)
   pub kinds_in : Copied (length kind) kind kinds 0
+
+-- what copies of the lent lists to the front of the work arrays leave
+pub copied_all :
+    {wanted weight : List ℤ} {left right : List ℕ} {distance : List ℤ} {kind : List ℕ} {b : Buffers}
+    {wants weights : List ℤ} {lefts rights : List ℕ} {distances : List ℤ} {kinds : List ℕ}
+    (wants₀ weights₀ : List ℤ) (lefts₀ rights₀ : List ℕ) (distances₀ : List ℤ) (kinds₀ : List ℕ) →
+    Ready wanted weight left right distance kind b →
+    wants ≡ over (length wanted) wanted wants₀ →
+    weights ≡ over (length wanted) weight weights₀ →
+    lefts ≡ over (length left) left lefts₀ →
+    rights ≡ over (length left) right rights₀ →
+    distances ≡ over (length left) distance distances₀ →
+    kinds ≡ over (length left) kind kinds₀ →
+    CopiedAll wanted weight left right distance kind wants weights lefts rights distances kinds
+copied_all {wanted} {weight} {left} {right} {distance} {kind} wants₀ weights₀ lefts₀ rights₀ distances₀ kinds₀ ready a b c d e f =
+    record {
+      wants_in = copied_by (length wanted) wanted wants₀ (pos 0) a (omega arith) refl;
+      weights_in = copied_by (length wanted) weight weights₀ (pos 0) b (omega (arith, ready.weights)) ready.weights;
+      lefts_in = copied_by (length left) left lefts₀ 0 c (omega arith) refl;
+      rights_in = copied_by (length left) right rights₀ 0 d (omega (arith, ready.rights)) ready.rights;
+      distances_in = copied_by (length left) distance distances₀ (pos 0) e (omega (arith, ready.distances)) ready.distances;
+      kinds_in = copied_by (length left) kind kinds₀ 0 f (omega (arith, ready.kinds)) ready.kinds;
+    }
 
 -- the problem in the work arrays
 abbrev pub work_of : (wanted : List ℤ) (left : List ℕ) (wants weights : List ℤ) (lefts rights : List ℕ) (distances : List ℤ) (kinds : List ℕ) → Problem
