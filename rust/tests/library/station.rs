@@ -1,5 +1,5 @@
-//! The station program as it is run: a failed read is no short sheet, and a failed write is told. A program of Rattle
-//! cannot set its exit status, so that is 0 each time and a failure is told on standard error alone.
+//! The station program as it is run: a failed read is no short sheet, and a failed write is told. The exit status is 0
+//! each time, and a failure is told on standard error alone.
 use crate::sheet::file;
 use std::fs::File;
 use std::io::Write;
@@ -15,7 +15,7 @@ const LISTING: &str = "place,0,-3,2,-1\r\nplace,1,9,2,5\r\nslack,0,0,1\r\n";
 const UNREAD: &str = "station: the sheet could not be read\n";
 const UNWRITTEN: &str = "station: the listing could not be written\n";
 
-/// Starts the program, which `rt check station` proves and builds.
+/// Starts the program, which `tools/build` proves and builds.
 fn start(input: Stdio, output: Stdio) -> Child {
     let program = Path::new(env!("CARGO_MANIFEST_DIR")).join("../target/bin/station");
     Command::new(program)
@@ -23,7 +23,7 @@ fn start(input: Stdio, output: Stdio) -> Child {
         .stdout(output)
         .stderr(Stdio::piped())
         .spawn()
-        .expect("target/bin/station, which rt check station makes")
+        .expect("target/bin/station, which tools/build makes")
 }
 
 /// Holds what a run wrote to its standard output and its standard error.
