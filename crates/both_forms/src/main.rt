@@ -8,170 +8,101 @@
 // lends the records.
 // A sheet has a line with its name and a line with its carried record in front, and a byte 0 behind.
 mod compare;
-mod scan;
 
 use compare::{print_laid, print_ring};
-use console::{INPUT_MOST, read_full};
+use console::{INPUT_MOST, read_full, split_at_byte};
 use ground::GapRecord;
-use ground::limits::{AT_LEAST, GAPS, GapBytes, GapIndices, GapInts, LABELS};
+use ground::limits::{AT_LEAST, GAPS};
+use ground::lists::Lists;
 use layout::part::{back_part, ring_part};
 use record_arrays::RECORDS;
 use rooms::{Laid, RecordBytes, lay_out_room, lay_out_rooms};
-use scan::find;
 use std::io;
-use text_reading::Reading;
-use text_reading::read::read_sheet;
+use text_reading::problem::{lists_of, read_problem};
 
 // The gaps of four lists as records.
-fn records_of(
-    left: GapIndices,
-    right: GapIndices,
-    distance: GapInts,
-    kind: GapBytes,
-) -> [GapRecord; RECORDS] {
+fn records_of(lists: Lists) -> [GapRecord; RECORDS] {
     let mut records = [GapRecord {
         left: 0,
         right: 0,
         distance: 0,
         kind: AT_LEAST,
     }; RECORDS];
-    let mut e: usize = 0;
-    while e < GAPS {
-        records[e] = GapRecord {
-            left: left[e],
-            right: right[e],
-            distance: distance[e],
-            kind: kind[e],
+    let ends = lists.left.iter().zip(lists.right);
+    let asked = lists.distance.iter().zip(lists.kind);
+    for (record, ((left, right), (distance, kind))) in records.iter_mut().zip(ends.zip(asked)) {
+        *record = GapRecord {
+            left: *left,
+            right: *right,
+            distance: *distance,
+            kind: *kind,
         };
-        e += 1;
     }
     records
 }
 
-// Lays a sheet out as records, and prints what is answered and left.
+// Lays a sheet out as records from marks at every gap, and prints what is answered and left.
 fn show_alone(
     rt: &impl Print,
-    fill: i64,
-    marks: RecordBytes,
     records: [GapRecord; RECORDS],
     wanted: &[i64],
     weight: &[i64],
     count: u8,
-    lists: Laid,
+    lists: &Laid,
 ) -> io::Result<()> {
-    let alone = lay_out_room(fill, marks, wanted, weight, records, count);
+    let alone = lay_out_room(7, [1u8; RECORDS], wanted, weight, records, count);
     println!(rt; " records from other marks, beside lists")?;
-    print_laid(rt, wanted.len(), count as usize, alone, lists)
+    print_laid(rt, wanted.len(), usize::from(count), &alone, lists)
 }
 
 // Lays a sheet out in both forms, and prints what is answered and left.
-fn show_both(
-    rt: &impl Print,
-    marks: RecordBytes,
-    records: [GapRecord; RECORDS],
-    wanted: &[i64],
-    weight: &[i64],
-    left: &[usize],
-    right: &[usize],
-    distance: &[i64],
-    kind: &[u8],
-) -> io::Result<()> {
-    let labels = wanted.len();
-    let gaps = left.len();
+fn show_both(rt: &impl Print, marks: RecordBytes, lists: Lists) -> io::Result<()> {
+    let gaps = lists.left.len();
     if GAPS < gaps {
         return Ok(());
     }
     let count = gaps as u8;
-    let pair = lay_out_rooms(
-        0, marks, marks, wanted, weight, left, right, distance, kind, records, count,
-    );
-    let lists = pair.lists;
+    let records = records_of(lists);
+    let pair = lay_out_rooms(0, marks, marks, lists, records, count);
     println!(rt; " lists, beside records")?;
-    let other = pair.records;
-    print_laid(rt, labels, gaps, lists, other)?;
-    show_alone(rt, 7, [1u8; RECORDS], records, wanted, weight, count, lists)
+    print_laid(rt, lists.wanted.len(), gaps, &pair.lists, &pair.records)?;
+    show_alone(rt, records, lists.wanted, lists.weight, count, &pair.lists)
 }
 
 // Reads a sheet's text and lays it out. Every text of the bench is a sheet.
 fn show_text(rt: &impl Print, marks: RecordBytes, text: &[u8]) -> io::Result<()> {
-    let mut wanted = [0i64; LABELS];
-    let mut weight = [0i64; LABELS];
-    let mut left = [0usize; GAPS];
-    let mut right = [0usize; GAPS];
-    let mut distance = [0i64; GAPS];
-    let mut kind = [0u8; GAPS];
-    let found = read_sheet(
-        text,
-        &mut wanted,
-        &mut weight,
-        &mut left,
-        &mut right,
-        &mut distance,
-        &mut kind,
-    );
-    let Reading::Sheet(counts) = found else {
-        return Ok(());
-    };
-    let labels = counts.labels;
-    let gaps = counts.gaps;
-    if LABELS < labels {
-        return Ok(());
+    match read_problem(text) {
+        Ok(problem) => show_both(rt, marks, lists_of(&problem)),
+        Err(_) => Ok(()),
     }
-    if GAPS < gaps {
-        return Ok(());
-    }
-    show_both(
-        rt,
-        marks,
-        records_of(left, right, distance, kind),
-        &wanted[0..labels],
-        &weight[0..labels],
-        &left[0..gaps],
-        &right[0..gaps],
-        &distance[0..gaps],
-        &kind[0..gaps],
-    )
 }
 
 // A carried record: marks where the line has a 1.
 fn marks_of(line: &[u8]) -> RecordBytes {
     let mut marks = [0u8; RECORDS];
-    let mut e: usize = 0;
-    while e < RECORDS {
-        if line.len() <= e {
-            return marks;
-        }
-        if line[e] == b'1' {
-            marks[e] = 1;
-        }
-        e += 1;
+    for (mark, byte) in marks.iter_mut().zip(line) {
+        *mark = u8::from(*byte == b'1');
     }
     marks
 }
 
 // Prints a sheet's name, and what is answered to it.
 fn show_entry(rt: &impl Print, entry: &[u8]) -> io::Result<()> {
-    let name = find(entry, 0, b'\n');
-    if name == entry.len() {
+    let Some((name, rest)) = split_at_byte(entry, b'\n') else {
         return Ok(());
-    }
-    let head = name + 1;
-    rt.write_all(&entry[0..head])?;
-    let line = find(entry, head, b'\n');
-    if line == entry.len() {
+    };
+    rt.write_all(name)?;
+    println!(rt)?;
+    let Some((line, text)) = split_at_byte(rest, b'\n') else {
         return Ok(());
-    }
-    let text = line + 1;
-    show_text(rt, marks_of(&entry[head..line]), &entry[text..])
+    };
+    show_text(rt, marks_of(line), text)
 }
 
 // Takes the sheets apart.
 fn show_all(rt: &impl Print, sheets: &[u8]) -> io::Result<()> {
-    let mut at: usize = 0;
-    while at < sheets.len() {
-        let end = find(sheets, at, 0);
-        show_entry(rt, &sheets[at..end])?;
-        at = end + 1;
+    for entry in sheets.split(|byte| *byte == 0) {
+        show_entry(rt, entry)?;
     }
     Ok(())
 }
@@ -182,13 +113,14 @@ fn show_neither(rt: &impl Print) -> io::Result<()> {
     show_both(
         rt,
         [0u8; RECORDS],
-        records_of([0usize; GAPS], [1usize; GAPS], [6i64; GAPS], [2u8; GAPS]),
-        &[0i64, 0],
-        &[1i64, 1],
-        &[0],
-        &[1],
-        &[6i64],
-        &[2],
+        Lists {
+            wanted: &[0, 0],
+            weight: &[1, 1],
+            left: &[0],
+            right: &[1],
+            distance: &[6],
+            kind: &[2],
+        },
     )
 }
 
@@ -210,7 +142,7 @@ fn show_parts(rt: &impl Print) -> io::Result<()> {
 fn main(rt: HostRuntime) -> io::Result<()> {
     let mut sheets = [0u8; INPUT_MOST];
     let got = read_full(&mut rt.stdin(), &mut sheets)?;
-    show_all(&rt, &sheets[0..got])?;
+    show_all(&rt, &sheets[..got])?;
     show_neither(&rt)?;
     show_parts(&rt)
 }

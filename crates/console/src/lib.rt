@@ -1,8 +1,8 @@
 #![tactic(auto)]
-// What the programs that take many sheets share: the standard input, read whole.
+// What the programs share that read the standard input whole, many sheets or one.
 ghost use Rattle.std.specs.Io.{ReadsAtMost};
 ghost use Rattle.std.specs.Io.KnownBytes.{Consumes, IsAtEnd};
-ghost use Rattle.std.specs.Prelude.{◌<◌, IfOk, length, take};
+ghost use Rattle.std.specs.Prelude.{◌≡◌, ◌<◌, ◌≤◌, ◌++◌, ◌∷◌, IfOk, IfSome, IsSome, ◌↔◌, Contains, length, take};
 
 use std::io;
 use std::io::Read;
@@ -10,7 +10,7 @@ use std::io::Read;
 // As many bytes as a program takes of its input.
 pub const INPUT_MOST: usize = 65536;
 
-// Reads until the buffer is full or the input ends, and returns how many bytes stand at the buffer's front. Of an input whose bytes are
+// Reads until the buffer is full or the input ends (a read gives as many bytes as it likes), and returns how many bytes stand at the buffer's front. Of an input whose bytes are
 // known these are its first ones, and where they do not fill the buffer none is left.
 pub fn read_full<R: Read>(input: &mut R, buffer: &mut [u8]) -> io::Result<usize>
     ensures within { ReadsAtMost result buffer.new }
@@ -26,4 +26,50 @@ pub fn read_full<R: Read>(input: &mut R, buffer: &mut [u8]) -> io::Result<usize>
         done += more;
     }
     Ok(done)
+}
+
+// Cuts bytes in two at the first that is this one, which is in neither part.
+pub fn split_at_byte(bytes: &[u8], byte: u8) -> Option<(&[u8], &[u8])>
+    ensures cut { IfSome result (λ parts. bytes.now ≡ parts.0.now ++ byte ∷ parts.1.now) }
+    ensures first { IfSome result (λ parts. ¬ Contains parts.0.now byte) }
+    ensures found { IsSome result ↔ Contains bytes.now byte }
+{
+    let at = bytes.iter().position(|b| *b == byte)?;
+    Some((&bytes[..at], &bytes[at + 1..]))
+}
+
+// How long the first line is, with its end.
+pub fn first_line(entry: &[u8]) -> usize
+    ensures { result ≤ length entry.now }
+{
+    split_at_byte(entry, b'\n').map_or(entry.len(), |(name, _)| name.len() + 1)
+}
+
+// Writes a fraction: a space, the numerator, and the denominator where it is not 1.
+pub fn print_fraction(rt: &impl Print, num: i64, den: i64) -> io::Result<()> {
+    print!(rt; " {num}")?;
+    if den != 1 {
+        let below = den.unsigned_abs();
+        print!(rt; "/{below}")?;
+    }
+    Ok(())
+}
+
+// Writes so many fractions.
+pub fn print_fractions(rt: &impl Print, count: usize, num: &[i64], den: &[i64]) -> io::Result<()> {
+    for (num, den) in num.iter().zip(den).take(count) {
+        print_fraction(rt, *num, *den)?;
+    }
+    Ok(())
+}
+
+// Writes so many steps of a ring, as its two buffers have them: the gaps' numbers, and the word back in front of one that is passed backwards.
+pub fn print_steps(rt: &impl Print, count: usize, ring: &[usize], back: &[u8]) -> io::Result<()> {
+    for (gap, back) in ring.iter().zip(back).take(count) {
+        if *back != 0 {
+            print!(rt; " back")?;
+        }
+        print!(rt; " {gap}")?;
+    }
+    Ok(())
 }

@@ -1,7 +1,7 @@
 -- What is found of a block, as the least move's theory asks it: the loads that the two eliminations leave on its marked gaps,
 -- their flows, and which of them the block's breaking points name.
 use mathlib.Core.Path.{◌≡◌, refl, sym, ◌∙◌, ap, ap₂, subst}
-use mathlib.Core.Logic.{◌⊎◌, ◌↔◌, inl, inr, ⊎_elim}
+use mathlib.Core.Logic.{◌↔◌, inl, inr, ⊎_elim}
 use mathlib.Core.Bool.{Bool, true, false, cond}
 use mathlib.Core.List.{List, [], ◌∷◌}
 use Prim.Native.Nat.{ℕ, ◌<◌}
@@ -15,17 +15,19 @@ use Rattle.algebra.proofs.Ring.{ring, quotes, lt_given, lt_goal}
 use Rattle.algebra.proofs.Whole.{one_*ℤ, pp, le_parts, parts_le, lt_parts, parts_lt, not_le_of_lt}
 use Rattle.algebra.proofs.Sum.{sum_cong, sum_*}
 use Rattle.least_move.specs.Sheet.{at_least, gap_number, kind_of}
-use Rattle.ground.specs.declared.GapNumber.{GapNumber}
 use Rattle.least_move.specs.States.{flow, Independent, Numbers, Sound}
 use Rattle.least_move.proofs.Flow.{at_label}
 use Rattle.least_move.proofs.Sides.{BlockSide}
 use Rattle.ground.specs.Entries.{nat, int}
-use Rattle.core_elimination.specs.Block.{numerator, surplus_at, only_at}
+use Rattle.core_elimination.specs.Block.{IsSign, numerator, surplus_at, only_at}
 use Rattle.core_elimination.proofs.TreeFlow.{is_seen, toward, Hangs, away, back, along, eqb_sym, root_seen, hangs, via_seen, along_at, along_only, parent_gaps_all, mean_at, tree_sum}
-use Rattle.core_breaking.specs.declared.Break.TheVariants.{At}
+use Rattle.std.specs.Prelude.{Option, Some}
+use Rattle.core_breaking.specs.declared.BreakingPoint.{BreakingPoint}
 use Rattle.core_breaking.specs.declared.Side.{Side}
-use Rattle.core_breaking.specs.Breaking.{candidate_of, losing_end}
-use Rattle.core_forest.specs.Problem.{Problem, Limits, graph_of, marks_of, numbers_of}
+use Rattle.core_breaking.specs.Breaking.{over, candidate_of, losing_end}
+use Rattle.ground.specs.declared.problem.Problem.{Problem}
+use Rattle.core_forest.specs.declared.search.Work.{Work}
+use Rattle.core_forest.specs.Problem.{Limits, graph_of, marks_of, numbers_of}
 use Rattle.core_advance.specs.Side.{SideFound, share_of}
 use Rattle.core_breaking.proofs.BreakingPoints.{breaks_at, MadeOf, made_of}
 use Rattle.core_elimination.proofs.SearchedBlock.{limits_graph, of_block, gaps_inside, block_eliminates, load_flow, surplus_flow}
@@ -52,12 +54,13 @@ flow_* m u v c Λ i = ap₂ (λ x y. x -ℤ y) (side v) (side u) ∙ ring (c ∷
         (λ e _. ring (c ∷ ind (eqb (w e) i) ∷ Λ e ∷ []) (search quotes depth 12) (search quotes depth 12) refl)
         ∙ sum_* m c (λ e. ind (eqb (w e) i) *ℤ Λ e)
 
-abbrev pub IsSign : ℤ → Type 0
-IsSign s = (s ≡ pos 1) ⊎ (s ≡ negsuc 0)
-
 only_ind : (b : Bool) (c : ℤ) → cond b c (pos 0) ≡ ind b *ℤ c
 only_ind true c = sym (one_*ℤ c)
 only_ind false c = sym (zero-*ℤ c)
+
+-- the breaking point of gap e at num / den
+abbrev pub point_at : ℕ → (num den : ℤ) → Option BreakingPoint
+point_at e num den = Some (record { gap = gap_number e; push = over num den })
 
 two_ways : pos 1 ≡ negsuc 0 → ⊥
 two_ways e = omega (arith, ap pp e)
@@ -103,18 +106,18 @@ same_sign s t x hs ht n above =
 
 -- ---- the loads of a block's marked gaps
 
--- A breaking point R / P of the block S: a marked gap of it that may be dropped. Over the block's weight it carries r, and loses q with the push.
-pub record Breaks (z : Numbers) (F S : ℕ → Bool) (r q : ℕ → ℤ) (e : GapNumber) (R P : ℤ) : Type 0 where
-  pub gap_in : e.0 < z.m
-  pub marked : F e.0 ≡ true
-  pub left_seen : S (z.u e.0) ≡ true
-  pub right_seen : S (z.v e.0) ≡ true
-  pub kind : z.kind e.0 ≡ at_least
-  pub num : R ≡ r e.0
-  pub den : P ≡ q e.0
-  pub above : pos 0 <ℤ q e.0
+-- A breaking point of the block S: a marked gap of it that may be dropped. Over the block's weight it carries r, and loses q with the push.
+pub record Breaks (z : Numbers) (F S : ℕ → Bool) (r q : ℕ → ℤ) (x : BreakingPoint) : Type 0 where
+  pub gap_in : x.gap.0 < z.m
+  pub marked : F x.gap.0 ≡ true
+  pub left_seen : S (z.u x.gap.0) ≡ true
+  pub right_seen : S (z.v x.gap.0) ≡ true
+  pub kind : z.kind x.gap.0 ≡ at_least
+  pub num : x.push.num ≡ r x.gap.0
+  pub den : x.push.den ≡ q x.gap.0
+  pub above : pos 0 <ℤ q x.gap.0
 
-breaks_as : {z : Numbers} {F S : ℕ → Bool} {r q : ℕ → ℤ} {e : GapNumber} {R P : ℤ} (q' : ℕ → ℤ) → q e.0 ≡ q' e.0 → Breaks z F S r q e R P → Breaks z F S r q' e R P
+breaks_as : {z : Numbers} {F S : ℕ → Bool} {r q : ℕ → ℤ} {x : BreakingPoint} (q' : ℕ → ℤ) → q x.gap.0 ≡ q' x.gap.0 → Breaks z F S r q x → Breaks z F S r q' x
 breaks_as q' same b =
     record {
       gap_in = b.gap_in;
@@ -128,41 +131,48 @@ breaks_as q' same b =
     }
 
 -- what each gap carries over the block's weight while nothing pushes
-abbrev pub rest_load : Problem → List ℕ → ℤ → ℕ → (queue via up : List ℕ) → List ℤ → ℕ → ℤ
-rest_load p mark sign count queue via up held e = sign *ℤ along (graph_of p mark) count queue via up (int held) e
+abbrev pub rest_load : Problem → List ℕ → ℤ → ℕ → Work → List ℤ → ℕ → ℤ
+rest_load p mark sign count w held e = sign *ℤ along (graph_of p mark) count w.queue w.via w.up (int held) e
 
 -- and by how much that changes with the push
-abbrev pub push_load : Problem → List ℕ → ℕ → (queue via up : List ℕ) → List ℤ → ℕ → ℤ
-push_load p mark count queue via up share e = along (graph_of p mark) count queue via up (int share) e
+abbrev pub push_load : Problem → List ℕ → ℕ → Work → List ℤ → ℕ → ℤ
+push_load p mark count w share e = along (graph_of p mark) count w.queue w.via w.up (int share) e
 
-module _ {p : Problem} {mark : List ℕ} {root other : ℕ} {sign : ℤ} {r : Side} {at queue via up : List ℕ} {off held share : List ℤ} (lim : Limits p) (f : SideFound p mark root other sign r at queue via up off held share) where
+module _ {p : Problem} {mark : List ℕ} {root other : ℕ} {sign : ℤ} {r : Side} {work : Work} {held share : List ℤ} (lim : Limits p) (f : SideFound p mark root other sign r work held share) where
   -- ---- the fields
 
   weight_above : pos 0 <ℤ r.sums.weight
   weight_above = parts_lt (omega (arith, le_parts (sums_range lim f).weight_low))
 
-  rest_flow : IsSign sign → (i : ℕ) → i < p.labels → flow p.gaps (nat p.left) (nat p.right) (rest_load p mark sign r.count queue via up held) i ≡ ind (is_seen at i) *ℤ surplus_at r.sums off p.wanted p.weight i
+  rest_flow : IsSign sign → (i : ℕ) → i < p.labels
+      → flow p.gaps (nat p.left) (nat p.right) (rest_load p mark sign r.count work held) i
+      ≡ ind (is_seen work.at i) *ℤ surplus_at r.sums work.off p.wanted p.weight i
   rest_flow sgn i l =
-      flow_* p.gaps (nat p.left) (nat p.right) sign (along (graph_of p mark) r.count queue via up (int held)) i
+      flow_* p.gaps (nat p.left) (nat p.right) sign (along (graph_of p mark) r.count work.queue work.via work.up (int held)) i
       ∙ ap (λ x. sign *ℤ x) (surplus_flow lim f.tree sign r.sums f.weight f.wanted f.surplus f.held_size f.held_is i l)
-      ∙ ring (sign ∷ ind (is_seen at i) ∷ lack ∷ []) (search quotes depth 12) (search quotes depth 12) refl
-      ∙ ap (λ x. ind (is_seen at i) *ℤ x) (twice_signed sign sign lack sgn refl)
+      ∙ ring (sign ∷ ind (is_seen work.at i) ∷ lack ∷ []) (search quotes depth 12) (search quotes depth 12) refl
+      ∙ ap (λ x. ind (is_seen work.at i) *ℤ x) (twice_signed sign sign lack sgn refl)
     where
       lack : ℤ
-      lack = surplus_at r.sums off p.wanted p.weight i
+      lack = surplus_at r.sums work.off p.wanted p.weight i
 
-  push_flow : (h : ℕ → ℤ) → ((x : ℕ) → share_of p r other x ≡ h x) → sum r.count (λ k. h (nat queue k)) ≡ r.sums.weight → (i : ℕ) → i < p.labels → flow p.gaps (nat p.left) (nat p.right) (push_load p mark r.count queue via up share) i ≡ ind (is_seen at i) *ℤ h i -ℤ ind (eqb root i) *ℤ r.sums.weight
+  push_flow : (h : ℕ → ℤ) → ((x : ℕ) → share_of p r other x ≡ h x) → sum r.count (λ k. h (nat work.queue k)) ≡ r.sums.weight → (i : ℕ) → i < p.labels
+      → flow p.gaps (nat p.left) (nat p.right) (push_load p mark r.count work share) i ≡ ind (is_seen work.at i) *ℤ h i -ℤ ind (eqb root i) *ℤ r.sums.weight
   push_flow h is total =
-      load_flow lim f.tree (int f.share₁) (int share) h r.sums.weight (block_eliminates lim f.tree f.share₁ share f.share_size f.share_is) (λ k l. f.shares.inside k l ∙ is (nat queue k)) total
+      load_flow lim f.tree (int f.share₁) (int share) h r.sums.weight (block_eliminates lim f.tree f.share₁ share f.share_size f.share_is) (λ k l. f.shares.inside k l ∙ is (nat work.queue k)) total
 
-  mean_found : (N : ℤ) (X : ℕ → ℤ) (c : ℤ) → ((e : ℕ) → e < p.gaps → marks_of mark e ≡ true → X (nat p.right e) ≡ X (nat p.left e) +ℤ N *ℤ int p.distance e) → sum p.labels (λ i. ind (is_seen at i) *ℤ (pos 2 *ℤ (int p.weight i *ℤ (X i -ℤ N *ℤ int p.wanted i)))) ≡ c → (i : ℕ) → i < p.labels → is_seen at i ≡ true → pos 2 *ℤ (r.sums.weight *ℤ X i) ≡ pos 2 *ℤ (N *ℤ numerator r.sums off i) +ℤ c
+  mean_found : (N : ℤ) (X : ℕ → ℤ) (c : ℤ) → ((e : ℕ) → e < p.gaps → marks_of mark e ≡ true → X (nat p.right e) ≡ X (nat p.left e) +ℤ N *ℤ int p.distance e)
+      → sum p.labels (λ i. ind (is_seen work.at i) *ℤ (pos 2 *ℤ (int p.weight i *ℤ (X i -ℤ N *ℤ int p.wanted i)))) ≡ c → (i : ℕ) → i < p.labels
+      → is_seen work.at i ≡ true → pos 2 *ℤ (r.sums.weight *ℤ X i) ≡ pos 2 *ℤ (N *ℤ numerator r.sums work.off i) +ℤ c
   mean_found N X c tight balance =
-      of_block lim f.tree (λ i. pos 2 *ℤ (r.sums.weight *ℤ X i) ≡ pos 2 *ℤ (N *ℤ numerator r.sums off i) +ℤ c)
-      (λ k l. ap (λ w. pos 2 *ℤ (w *ℤ X (nat queue k))) f.weight
+      of_block lim f.tree (λ i. pos 2 *ℤ (r.sums.weight *ℤ X i) ≡ pos 2 *ℤ (N *ℤ numerator r.sums work.off i) +ℤ c)
+      (λ k l. ap (λ w. pos 2 *ℤ (w *ℤ X (nat work.queue k))) f.weight
       ∙ mean_at (limits_graph mark lim) f.tree X N tight (int p.weight) (int p.wanted) c balance k l
-      ∙ sym (ap₂ (λ v w. pos 2 *ℤ (N *ℤ (v +ℤ int off (nat queue k) *ℤ w)) +ℤ c) f.wanted f.weight))
+      ∙ sym (ap₂ (λ v w. pos 2 *ℤ (N *ℤ (v +ℤ int work.off (nat work.queue k) *ℤ w)) +ℤ c) f.wanted f.weight))
 
-  side_with : IsSign sign → (h : ℕ → ℤ) → ((x : ℕ) → share_of p r other x ≡ h x) → sum r.count (λ k. h (nat queue k)) ≡ r.sums.weight → BlockSide (numbers_of p) (marks_of mark) root (is_seen at) r.sums.weight (numerator r.sums off) h (rest_load p mark sign r.count queue via up held) (push_load p mark r.count queue via up share)
+  side_with : IsSign sign → (h : ℕ → ℤ) → ((x : ℕ) → share_of p r other x ≡ h x) → sum r.count (λ k. h (nat work.queue k)) ≡ r.sums.weight
+      → BlockSide (numbers_of p) (marks_of mark) root (is_seen work.at) r.sums.weight (numerator r.sums work.off) h
+      (rest_load p mark sign r.count work held) (push_load p mark r.count work share)
   side_with sgn h is total =
       record {
         root_in = root_seen (limits_graph mark lim) f.tree;
@@ -176,79 +186,93 @@ module _ {p : Problem} {mark : List ℕ} {root other : ℕ} {sign : ℤ} {r : Si
       }
 
   -- the other end stands elsewhere: the shares are the weights
-  pub block_side_apart : IsSign sign → r.joined ≡ false → BlockSide (numbers_of p) (marks_of mark) root (is_seen at) r.sums.weight (numerator r.sums off) (int p.weight) (rest_load p mark sign r.count queue via up held) (push_load p mark r.count queue via up share)
+  pub block_side_apart : IsSign sign → r.joined ≡ false
+      → BlockSide (numbers_of p) (marks_of mark) root (is_seen work.at) r.sums.weight (numerator r.sums work.off) (int p.weight)
+      (rest_load p mark sign r.count work held) (push_load p mark r.count work share)
   block_side_apart sgn j = side_with sgn (int p.weight) (λ x. ap (λ b. cond b (only_at other r.sums.weight x) (int p.weight x)) j) (sym f.weight)
 
   -- it stands in the block: all the weight is its share
-  pub block_side_joined : IsSign sign → other < p.labels → r.joined ≡ true → BlockSide (numbers_of p) (marks_of mark) root (is_seen at) r.sums.weight (numerator r.sums off) (λ i. ind (eqb other i) *ℤ r.sums.weight) (rest_load p mark sign r.count queue via up held) (push_load p mark r.count queue via up share)
+  pub block_side_joined : IsSign sign → other < p.labels → r.joined ≡ true
+      → BlockSide (numbers_of p) (marks_of mark) root (is_seen work.at) r.sums.weight (numerator r.sums work.off)
+      (λ i. ind (eqb other i) *ℤ r.sums.weight) (rest_load p mark sign r.count work held) (push_load p mark r.count work share)
   block_side_joined sgn lo j =
       side_with sgn (λ i. ind (eqb other i) *ℤ r.sums.weight)
       (λ x. ap (λ b. cond b (only_at other r.sums.weight x) (int p.weight x)) j ∙ only_ind (eqb x other) r.sums.weight ∙ ap (λ b. ind b *ℤ r.sums.weight) (eqb_sym x other))
       (tree_sum (limits_graph mark lim) f.tree (λ i. ind (eqb other i) *ℤ r.sums.weight)
-      ∙ at_label p.labels (λ i. ind (is_seen at i)) other lo r.sums.weight
+      ∙ at_label p.labels (λ i. ind (is_seen work.at i)) other lo r.sums.weight
       ∙ ap (λ b. ind b *ℤ r.sums.weight) (sym f.joined ∙ j)
       ∙ one_*ℤ r.sums.weight)
 
   -- ---- the breaking points
 
-  pub rest_at : (k : ℕ) → 0 < k → k < r.count → rest_load p mark sign r.count queue via up held (nat via (nat queue k)) ≡ sign *ℤ (toward (graph_of p mark) via up (nat queue k) *ℤ int held (nat queue k))
+  pub rest_at : (k : ℕ) → 0 < k → k < r.count
+      → rest_load p mark sign r.count work held (nat work.via (nat work.queue k))
+      ≡ sign *ℤ (toward (graph_of p mark) work.via work.up (nat work.queue k) *ℤ int held (nat work.queue k))
   rest_at k h l = ap (λ x. sign *ℤ x) (along_at (limits_graph mark lim) f.tree (int held) k h l)
 
-  pub push_at : (k : ℕ) → 0 < k → k < r.count → push_load p mark r.count queue via up share (nat via (nat queue k)) ≡ toward (graph_of p mark) via up (nat queue k) *ℤ int share (nat queue k)
+  pub push_at : (k : ℕ) → 0 < k → k < r.count
+      → push_load p mark r.count work share (nat work.via (nat work.queue k))
+      ≡ toward (graph_of p mark) work.via work.up (nat work.queue k) *ℤ int share (nat work.queue k)
   push_at k h l = along_at (limits_graph mark lim) f.tree (int share) k h l
 
   -- the losing end is the label itself where its gap points the way of the sign
-  losing_toward : IsSign sign → (k : ℕ) → 0 < k → k < r.count → (losing_end sign p.left p.right (nat via (nat queue k)) ≡ nat queue k) ↔ (toward (graph_of p mark) via up (nat queue k) ≡ sign)
+  losing_toward : IsSign sign → (k : ℕ) → 0 < k → k < r.count
+      → (losing_end sign p.left p.right (nat work.via (nat work.queue k)) ≡ nat work.queue k)
+      ↔ (toward (graph_of p mark) work.via work.up (nat work.queue k) ≡ sign)
   losing_toward sgn k h l = ⊎_elim (λ (s : sign ≡ pos 1). rw s (plus ways)) (λ (s : sign ≡ negsuc 0). rw s (minus ways)) sgn
     where
       x : ℕ
-      x = nat queue k
+      x = nat work.queue k
 
-      ways : Hangs (graph_of p mark) via up x
+      ways : Hangs (graph_of p mark) work.via work.up x
       ways = hangs (limits_graph mark lim) f.tree k h l
 
-      own : nat up x ≡ x → ⊥
-      own q = omega (arith, (f.tree.linked k h l).later, ap (nat at) q)
+      own : nat work.up x ≡ x → ⊥
+      own q = omega (arith, (f.tree.linked k h l).later, ap (nat work.at) q)
 
-      plus : Hangs (graph_of p mark) via up x → (nat p.right (nat via x) ≡ x) ↔ (toward (graph_of p mark) via up x ≡ pos 1)
+      plus : Hangs (graph_of p mark) work.via work.up x → (nat p.right (nat work.via x) ≡ x) ↔ (toward (graph_of p mark) work.via work.up x ≡ pos 1)
       plus (away a b t) = (λ _. t, λ _. b)
       plus (back a b t) = (λ q. absurd (own (sym a ∙ q)), λ q. absurd (two_ways (sym q ∙ t)))
 
-      minus : Hangs (graph_of p mark) via up x → (nat p.left (nat via x) ≡ x) ↔ (toward (graph_of p mark) via up x ≡ negsuc 0)
+      minus : Hangs (graph_of p mark) work.via work.up x → (nat p.left (nat work.via x) ≡ x) ↔ (toward (graph_of p mark) work.via work.up x ≡ negsuc 0)
       minus (away a b t) = (λ q. absurd (own (sym a ∙ q)), λ q. absurd (two_ways (sym t ∙ q)))
       minus (back a b t) = (λ _. t, λ _. b)
 
-  toward_sign : (k : ℕ) → 0 < k → k < r.count → IsSign (toward (graph_of p mark) via up (nat queue k))
+  toward_sign : (k : ℕ) → 0 < k → k < r.count → IsSign (toward (graph_of p mark) work.via work.up (nat work.queue k))
   toward_sign k h l = go (hangs (limits_graph mark lim) f.tree k h l)
     where
-      go : Hangs (graph_of p mark) via up (nat queue k) → IsSign (toward (graph_of p mark) via up (nat queue k))
+      go : Hangs (graph_of p mark) work.via work.up (nat work.queue k) → IsSign (toward (graph_of p mark) work.via work.up (nat work.queue k))
       go (away a b t) = inl t
       go (back a b t) = inr t
 
   -- there the arrays hold what its gap carries, and what that loses with the push
-  held_there : IsSign sign → (k : ℕ) → 0 < k → k < r.count → toward (graph_of p mark) via up (nat queue k) ≡ sign → int held (nat queue k) ≡ rest_load p mark sign r.count queue via up held (nat via (nat queue k))
-  held_there sgn k h l t = sym (rest_at k h l ∙ twice_signed sign (toward (graph_of p mark) via up (nat queue k)) (int held (nat queue k)) sgn t)
+  held_there : IsSign sign → (k : ℕ) → 0 < k → k < r.count → toward (graph_of p mark) work.via work.up (nat work.queue k) ≡ sign
+      → int held (nat work.queue k) ≡ rest_load p mark sign r.count work held (nat work.via (nat work.queue k))
+  held_there sgn k h l t = sym (rest_at k h l ∙ twice_signed sign (toward (graph_of p mark) work.via work.up (nat work.queue k)) (int held (nat work.queue k)) sgn t)
 
-  share_there : IsSign sign → (k : ℕ) → 0 < k → k < r.count → toward (graph_of p mark) via up (nat queue k) ≡ sign → int share (nat queue k) ≡ sign *ℤ push_load p mark r.count queue via up share (nat via (nat queue k))
-  share_there sgn k h l t = sym (ap (λ x. sign *ℤ x) (push_at k h l) ∙ twice_signed sign (toward (graph_of p mark) via up (nat queue k)) (int share (nat queue k)) sgn t)
+  share_there : IsSign sign → (k : ℕ) → 0 < k → k < r.count → toward (graph_of p mark) work.via work.up (nat work.queue k) ≡ sign
+      → int share (nat work.queue k) ≡ sign *ℤ push_load p mark r.count work share (nat work.via (nat work.queue k))
+  share_there sgn k h l t = sym (ap (λ x. sign *ℤ x) (push_at k h l) ∙ twice_signed sign (toward (graph_of p mark) work.via work.up (nat work.queue k)) (int share (nat work.queue k)) sgn t)
 
-  -- what the candidate at a position says of its label's gap
-  pub candidate_says : IsSign sign → (k : ℕ) → 0 < k → k < r.count → (e : GapNumber) (R P : ℤ) → candidate_of sign queue via p.left p.right p.kind held share k ≡ At e R P → Breaks (numbers_of p) (marks_of mark) (is_seen at) (rest_load p mark sign r.count queue via up held) (λ c. sign *ℤ push_load p mark r.count queue via up share c) e R P
-  candidate_says sgn k h l e R P is = rw (t.gap_is, t.num_is, t.den_is) here
+  -- what the candidate work.at a position says of its label's gap
+  pub candidate_says : IsSign sign → (k : ℕ) → 0 < k → k < r.count → {x : BreakingPoint} → candidate_of p sign work held share k ≡ Some x
+      → Breaks (numbers_of p) (marks_of mark) (is_seen work.at) (rest_load p mark sign r.count work held) (λ c. sign *ℤ push_load p mark r.count work share c) x
+  candidate_says sgn k h l {x} is = rw t.is here
     where
-      x : ℕ
-      x = nat queue k
+      y : ℕ
+      y = nat work.queue k
 
       c : ℕ
-      c = nat via x
+      c = nat work.via y
 
-      t : MadeOf sign queue via p.left p.right p.kind held share k e R P
-      t = made_of sign queue via p.left p.right p.kind held share k is
+      t : MadeOf p sign work held share k x
+      t = made_of p sign work held share k is
 
-      way : toward (graph_of p mark) via up x ≡ sign
+      way : toward (graph_of p mark) work.via work.up y ≡ sign
       way = (losing_toward sgn k h l).0 t.breaks.loses
 
-      here : Breaks (numbers_of p) (marks_of mark) (is_seen at) (rest_load p mark sign r.count queue via up held) (λ c. sign *ℤ push_load p mark r.count queue via up share c) (gap_number c) (int held x) (int share x)
+      here : Breaks (numbers_of p) (marks_of mark) (is_seen work.at) (rest_load p mark sign r.count work held)
+          (λ c. sign *ℤ push_load p mark r.count work share c) (record { gap = gap_number c; push = over (int held y) (int share y) })
       here =
           record {
             gap_in = (f.tree.linked k h l).gap_in;
@@ -258,63 +282,81 @@ module _ {p : Problem} {mark : List ℕ} {root other : ℕ} {sign : ℤ} {r : Si
             kind = ap kind_of t.breaks.at_least;
             num = held_there sgn k h l way;
             den = share_there sgn k h l way;
-            above = rw (t.den_is, share_there sgn k h l way) at t.above;
+            above = rw (t.is, share_there sgn k h l way) at t.above;
           }
 
   -- a position whose gap loses with the push is a candidate
-  candidate_here : IsSign sign → (k : ℕ) → 0 < k → k < r.count → pos 0 ≤ℤ int share (nat queue k) → kind_of (nat p.kind (nat via (nat queue k))) ≡ at_least → pos 0 <ℤ (sign *ℤ push_load p mark r.count queue via up share (nat via (nat queue k))) → candidate_of sign queue via p.left p.right p.kind held share k ≡ At (gap_number (nat via (nat queue k))) (rest_load p mark sign r.count queue via up held (nat via (nat queue k))) (sign *ℤ push_load p mark r.count queue via up share (nat via (nat queue k)))
+  candidate_here : IsSign sign → (k : ℕ) → 0 < k → k < r.count → pos 0 ≤ℤ int share (nat work.queue k)
+      → kind_of (nat p.kind (nat work.via (nat work.queue k))) ≡ at_least
+      → pos 0 <ℤ (sign *ℤ push_load p mark r.count work share (nat work.via (nat work.queue k)))
+      → candidate_of p sign work held share k
+      ≡ point_at (nat work.via (nat work.queue k)) (rest_load p mark sign r.count work held (nat work.via (nat work.queue k)))
+      (sign *ℤ push_load p mark r.count work share (nat work.via (nat work.queue k)))
   candidate_here sgn k h l n kd a =
-      breaks_at sign queue via p.left p.right p.kind held share k
+      breaks_at p sign work held share k
       (record { at_least = kind_least (nat p.kind c) kd; some = parts_le (omega (arith, lt_parts above)); loses = (losing_toward sgn k h l).1 way })
-      ∙ ap₂ (At (gap_number c)) (held_there sgn k h l way) is
+      ∙ ap₂ (λ (num den : ℤ). Some (record { gap = gap_number c; push = over num den })) (held_there sgn k h l way) is
     where
       x : ℕ
-      x = nat queue k
+      x = nat work.queue k
 
       c : ℕ
-      c = nat via x
+      c = nat work.via x
 
-      way : toward (graph_of p mark) via up x ≡ sign
-      way = same_sign sign (toward (graph_of p mark) via up x) (int share x) sgn (toward_sign k h l) n (rw (push_at k h l) at a)
+      way : toward (graph_of p mark) work.via work.up x ≡ sign
+      way = same_sign sign (toward (graph_of p mark) work.via work.up x) (int share x) sgn (toward_sign k h l) n (rw (push_at k h l) at a)
 
-      is : int share x ≡ sign *ℤ push_load p mark r.count queue via up share c
+      is : int share x ≡ sign *ℤ push_load p mark r.count work share c
       is = share_there sgn k h l way
 
       above : pos 0 <ℤ int share x
       above = rw is a
 
   module _ (indep : Independent p.labels p.gaps (nat p.left) (nat p.right) (marks_of mark)) where
-    -- every marked gap of the block that loses with the push is a candidate at some position
-    pub candidate_found : IsSign sign → (e : ℕ) → e < p.gaps → marks_of mark e ≡ true → is_seen at (nat p.left e) ≡ true → kind_of (nat p.kind e) ≡ at_least → pos 0 <ℤ (sign *ℤ push_load p mark r.count queue via up share e) → (k : ℕ) × (0 < k) × (k < r.count) × (candidate_of sign queue via p.left p.right p.kind held share k ≡ At (gap_number e) (rest_load p mark sign r.count queue via up held e) (sign *ℤ push_load p mark r.count queue via up share e))
+    -- every marked gap of the block that loses with the push is a candidate work.at some position
+    pub candidate_found : IsSign sign → (e : ℕ) → e < p.gaps → marks_of mark e ≡ true → is_seen work.at (nat p.left e) ≡ true
+        → kind_of (nat p.kind e) ≡ at_least → pos 0 <ℤ (sign *ℤ push_load p mark r.count work share e)
+        → (k : ℕ) × (0 < k) × (k < r.count)
+        × (candidate_of p sign work held share k ≡ point_at e (rest_load p mark sign r.count work held e) (sign *ℤ push_load p mark r.count work share e))
     candidate_found sgn e l m s kd a =
-        let q : (k : ℕ) × (0 < k) × (k < r.count) × (nat via (nat queue k) ≡ e) = parent_gaps_all (limits_graph mark lim) f.tree indep e l m s in (
+        let q : (k : ℕ) × (0 < k) × (k < r.count) × (nat work.via (nat work.queue k) ≡ e) = parent_gaps_all (limits_graph mark lim) f.tree indep e l m s in (
           q.0,
           q.1,
           q.2,
           subst
-              (λ (c : ℕ). kind_of (nat p.kind c) ≡ at_least → pos 0 <ℤ (sign *ℤ push_load p mark r.count queue via up share c) → candidate_of sign queue via p.left p.right p.kind held share q.0 ≡ At (gap_number c) (rest_load p mark sign r.count queue via up held c) (sign *ℤ push_load p mark r.count queue via up share c))
+              (λ (c : ℕ). kind_of (nat p.kind c) ≡ at_least → pos 0 <ℤ (sign *ℤ push_load p mark r.count work share c)
+              → candidate_of p sign work held share q.0
+              ≡ point_at c (rest_load p mark sign r.count work held c) (sign *ℤ push_load p mark r.count work share c))
               q.3 (candidate_here sgn q.0 q.1 q.2 (share_nonneg lim f q.0 q.2)) kd a,
         )
 
-    -- at the left end of the pushing gap: r / q where q is above zero
-    pub candidate_left : sign ≡ pos 1 → (e : ℕ) → e < p.gaps → marks_of mark e ≡ true → is_seen at (nat p.left e) ≡ true → kind_of (nat p.kind e) ≡ at_least → pos 0 <ℤ push_load p mark r.count queue via up share e → (k : ℕ) × (0 < k) × (k < r.count) × (candidate_of sign queue via p.left p.right p.kind held share k ≡ At (gap_number e) (rest_load p mark sign r.count queue via up held e) (push_load p mark r.count queue via up share e))
+    -- work.at the left end of the pushing gap: r / q where q is above zero
+    pub candidate_left : sign ≡ pos 1 → (e : ℕ) → e < p.gaps → marks_of mark e ≡ true → is_seen work.at (nat p.left e) ≡ true
+        → kind_of (nat p.kind e) ≡ at_least → pos 0 <ℤ push_load p mark r.count work share e
+        → (k : ℕ) × (0 < k) × (k < r.count)
+        × (candidate_of p sign work held share k ≡ point_at e (rest_load p mark sign r.count work held e) (push_load p mark r.count work share e))
     candidate_left g e l m s kd a =
-        let same : sign *ℤ push_load p mark r.count queue via up share e ≡ push_load p mark r.count queue via up share e = signed_plus sign (push_load p mark r.count queue via up share e) g in
+        let same : sign *ℤ push_load p mark r.count work share e ≡ push_load p mark r.count work share e = signed_plus sign (push_load p mark r.count work share e) g in
         let q = candidate_found (inl g) e l m s kd (rw same a) in
-        (q.0, q.1, q.2, q.3 ∙ ap (At (gap_number e) (rest_load p mark sign r.count queue via up held e)) same)
+        (q.0, q.1, q.2, q.3 ∙ ap (λ (den : ℤ). Some (record { gap = gap_number e; push = over (rest_load p mark sign r.count work held e) den })) same)
 
-    -- at the right end: r / -q where q is below zero
-    pub candidate_right : sign ≡ negsuc 0 → (e : ℕ) → e < p.gaps → marks_of mark e ≡ true → is_seen at (nat p.left e) ≡ true → kind_of (nat p.kind e) ≡ at_least → push_load p mark r.count queue via up share e <ℤ pos 0 → (k : ℕ) × (0 < k) × (k < r.count) × (candidate_of sign queue via p.left p.right p.kind held share k ≡ At (gap_number e) (rest_load p mark sign r.count queue via up held e) (pos 0 -ℤ push_load p mark r.count queue via up share e))
+    -- work.at the right end: r / -q where q is below zero
+    pub candidate_right : sign ≡ negsuc 0 → (e : ℕ) → e < p.gaps → marks_of mark e ≡ true → is_seen work.at (nat p.left e) ≡ true
+        → kind_of (nat p.kind e) ≡ at_least → push_load p mark r.count work share e <ℤ pos 0
+        → (k : ℕ) × (0 < k) × (k < r.count)
+        × (candidate_of p sign work held share k ≡ point_at e (rest_load p mark sign r.count work held e) (pos 0 -ℤ push_load p mark r.count work share e))
     candidate_right g e l m s kd a =
-        let same : sign *ℤ push_load p mark r.count queue via up share e ≡ pos 0 -ℤ push_load p mark r.count queue via up share e = signed_minus sign (push_load p mark r.count queue via up share e) g in
-        let q = candidate_found (inr g) e l m s kd (rw same ((minus_above (push_load p mark r.count queue via up share e)).1 a)) in
-        (q.0, q.1, q.2, q.3 ∙ ap (At (gap_number e) (rest_load p mark sign r.count queue via up held e)) same)
+        let same : sign *ℤ push_load p mark r.count work share e ≡ pos 0 -ℤ push_load p mark r.count work share e = signed_minus sign (push_load p mark r.count work share e) g in
+        let q = candidate_found (inr g) e l m s kd (rw same ((minus_above (push_load p mark r.count work share e)).1 a)) in
+        (q.0, q.1, q.2, q.3 ∙ ap (λ (den : ℤ). Some (record { gap = gap_number e; push = over (rest_load p mark sign r.count work held e) den })) same)
 
-  -- and what a candidate says, at either end
-  pub says_left : sign ≡ pos 1 → (k : ℕ) → 0 < k → k < r.count → (e : GapNumber) (R P : ℤ) → candidate_of sign queue via p.left p.right p.kind held share k ≡ At e R P → Breaks (numbers_of p) (marks_of mark) (is_seen at) (rest_load p mark sign r.count queue via up held) (push_load p mark r.count queue via up share) e R P
-  says_left g k h l e R P is =
-      breaks_as (push_load p mark r.count queue via up share) (signed_plus sign (push_load p mark r.count queue via up share e.0) g) (candidate_says (inl g) k h l e R P is)
+  -- and what a candidate says, work.at either end
+  pub says_left : sign ≡ pos 1 → (k : ℕ) → 0 < k → k < r.count → {x : BreakingPoint} → candidate_of p sign work held share k ≡ Some x
+      → Breaks (numbers_of p) (marks_of mark) (is_seen work.at) (rest_load p mark sign r.count work held) (push_load p mark r.count work share) x
+  says_left g k h l {x} is =
+      breaks_as (push_load p mark r.count work share) (signed_plus sign (push_load p mark r.count work share x.gap.0) g) (candidate_says (inl g) k h l is)
 
-  pub says_right : sign ≡ negsuc 0 → (k : ℕ) → 0 < k → k < r.count → (e : GapNumber) (R P : ℤ) → candidate_of sign queue via p.left p.right p.kind held share k ≡ At e R P → Breaks (numbers_of p) (marks_of mark) (is_seen at) (rest_load p mark sign r.count queue via up held) (λ c. pos 0 -ℤ push_load p mark r.count queue via up share c) e R P
-  says_right g k h l e R P is =
-      breaks_as (λ c. pos 0 -ℤ push_load p mark r.count queue via up share c) (signed_minus sign (push_load p mark r.count queue via up share e.0) g) (candidate_says (inr g) k h l e R P is)
+  pub says_right : sign ≡ negsuc 0 → (k : ℕ) → 0 < k → k < r.count → {x : BreakingPoint} → candidate_of p sign work held share k ≡ Some x
+      → Breaks (numbers_of p) (marks_of mark) (is_seen work.at) (rest_load p mark sign r.count work held) (λ c. pos 0 -ℤ push_load p mark r.count work share c) x
+  says_right g k h l {x} is =
+      breaks_as (λ c. pos 0 -ℤ push_load p mark r.count work share c) (signed_minus sign (push_load p mark r.count work share x.gap.0) g) (candidate_says (inr g) k h l is)

@@ -21,7 +21,8 @@ use Rattle.core_elimination.specs.declared.Sums.{Sums}
 use Rattle.core_elimination.specs.Block.{weight_sum, wanted_sum, Given, numerator}
 use Rattle.core_elimination.proofs.Ranges.{above_most, plus_most, times_most}
 use Rattle.core_elimination.proofs.TreeFlow.{is_seen, mean_at}
-use Rattle.core_forest.specs.Problem.{Problem, Limits, graph_of, marks_of, numbers_of, with_kind}
+use Rattle.ground.specs.declared.problem.Problem.{Problem}
+use Rattle.core_forest.specs.Problem.{Limits, graph_of, marks_of, numbers_of, with_kind}
 use Rattle.core_elimination.proofs.SearchedBlock.{limits_graph, block_listed, of_block, unseen, gaps_inside, spread_most, block_range, block_sums}
 use Rattle.core_balance.specs.Places.{DenMost, LabelPlaced, PlacesFound}
 use Rattle.ground.specs.Limits.{block_weight_most, core_weight_most}

@@ -2,7 +2,8 @@
 use Rattle.std.specs.Prelude.{ℕ, ◌+◌, ◌*◌, ◌≤◌, ◌<◌, ◌≡◌, List, ℤ, pos, nat_abs, ◌*ℤ◌, ◌≤ℤ◌, ◌<ℤ◌}
 use Rattle.least_move.specs.States.{StateAt}
 use Rattle.ground.specs.Entries.{int}
-use Rattle.core_forest.specs.Problem.{Problem, marks_of, numbers_of}
+use Rattle.ground.specs.declared.problem.Problem.{Problem}
+use Rattle.core_forest.specs.Problem.{marks_of, numbers_of}
 use Rattle.ground.specs.Limits.{labels_most, offset_most}
 
 -- a denominator is at most 48 times the largest weight

@@ -1,106 +1,88 @@
 // Breaking points: the pushes at which the multipliers of a block's gaps come to zero.
-ghost use Rattle.std.specs.Prelude.{◌≡◌, ◌⊎◌, ◌+◌, ◌<◌, pos, negsuc};
-ghost use Rattle.core_breaking.specs.Breaking.{BreakInRange, Breakable, candidate_of, least_break, losing_end};
-ghost use Rattle.core_breaking.specs.Breaking.{nearer_of};
+ghost use Rattle.std.specs.Prelude.{◌≡◌, ◌+◌, ◌<◌};
+ghost use Rattle.core_elimination.specs.Block.{IsSign};
+ghost use Rattle.core_breaking.specs.Breaking.{BreakInRange, Breakable, candidate_of, least_break, losing_end, nearer_of};
 ghost use Rattle.ground.specs.Limits.{gaps_most};
 
-use crate::Break;
+use crate::BreakingPoint;
+use core_forest::search::Work;
+use exact::Fraction;
 use exact::compare::compare;
-use exact::{Fraction, Order};
-use ground::limits::{GapBytes, GapIndices, LabelIndices, LabelInts};
+use ground::limits::{AT_LEAST, LabelInts};
+use ground::problem::Problem;
 use ground::{GapNumber, Label};
+use std::cmp::Ordering;
 
 // The nearer of two breaking points; the first where they are equal.
-pub(crate) fn nearer(a: Break, b: Break) -> Break
+pub(crate) fn nearer(a: Option<BreakingPoint>, b: Option<BreakingPoint>) -> Option<BreakingPoint>
     requires { BreakInRange a × BreakInRange b }
     ensures { result ≡ nearer_of a b }
 {
-    match a {
-        Break::Nothing => b,
-        Break::At(_, r, p) => match b {
-            Break::Nothing => a,
-            Break::At(_, s, q) => {
-                let order = compare(Fraction { num: s, den: q }, Fraction { num: r, den: p });
-                match order {
-                    Order::Below => b,
-                    Order::Same => a,
-                    Order::Above => a,
-                }
-            }
-        },
+    let Some(near) = a else {
+        return b;
+    };
+    let Some(next) = b else {
+        return a;
+    };
+    match compare(next.push, near.push) {
+        Ordering::Less => b,
+        Ordering::Equal => a,
+        Ordering::Greater => a,
     }
 }
 
 // The end of a gap at which the label under the gap stands, for a gap that loses load as the push grows:
-// with sign 1 those point away from the root, with sign -1 to it.
-fn losing_end(e: GapNumber, sign: i64, left: &GapIndices, right: &GapIndices) -> Label
+// with sign 1 those point away from the root, with sign -1 to it. (The sign is a number, as what is held was multiplied by it.)
+fn losing_end(p: &Problem, e: GapNumber, sign: i64) -> Label
     requires { e.0 < gaps_most }
-    ensures { result.0 ≡ losing_end sign left.now right.now e.0 }
+    ensures { result.0 ≡ losing_end sign p.now.left p.now.right e.0 }
 {
-    let k = e.0;
     if sign == 1 {
-        return Label(right[k]);
+        return Label(p.right[e.0]);
     }
-    Label(left[k])
+    Label(p.left[e.0])
 }
 
 // The breaking point of the label at position k: of its parent gap, if that is of the kind at least and loses load as
-// the push grows.
+// the push grows. (What is held and the shares are the caller's two arrays: a struct of them would serve this call alone.)
 fn candidate(
+    p: &Problem,
     k: usize,
     sign: i64,
-    queue: &LabelIndices,
-    via: &LabelIndices,
-    left: &GapIndices,
-    right: &GapIndices,
-    kind: &GapBytes,
+    w: &Work,
     held: &LabelInts,
     share: &LabelInts,
-) -> Break
-    requires { Breakable (k + 1) queue.now via.now held.now share.now × (0 < k) }
-    ensures { result ≡ candidate_of sign queue.now via.now left.now right.now kind.now held.now
-        share.now k }
+) -> Option<BreakingPoint>
+    requires { Breakable (k + 1) w.now.queue w.now.via held.now share.now × (0 < k) }
+    ensures { result ≡ candidate_of p.now sign w.now held.now share.now k }
 {
-    let x = queue[k];
-    let e = via[x];
-    if kind[e] != 0 {
-        return Break::Nothing;
+    let x = w.queue[k];
+    let gap = GapNumber(w.via[x]);
+    if p.kind[gap.0] != AT_LEAST || share[x] < 1 || losing_end(p, gap, sign) != Label(x) {
+        return None;
     }
-    if share[x] < 1 {
-        return Break::Nothing;
-    }
-    let end = losing_end(GapNumber(e), sign, left, right);
-    if end.0 != x {
-        return Break::Nothing;
-    }
-    Break::At(GapNumber(e), held[x], share[x])
+    let push = Fraction {
+        num: held[x],
+        den: share[x],
+    };
+    Some(BreakingPoint { gap, push })
 }
 
 // The first breaking point of the block.
 pub fn least_break(
-    count: usize,
+    p: &Problem,
     sign: i64,
-    queue: &LabelIndices,
-    via: &LabelIndices,
-    left: &GapIndices,
-    right: &GapIndices,
-    kind: &GapBytes,
+    w: &Work,
     held: &LabelInts,
     share: &LabelInts,
-) -> Break
-    requires { Breakable count queue.now via.now held.now share.now
-        × ((sign ≡ pos 1) ⊎ (sign ≡ negsuc 0)) }
-    ensures { result ≡ least_break count
-        (candidate_of sign queue.now via.now left.now right.now kind.now held.now share.now) }
+) -> Option<BreakingPoint>
+    requires { Breakable w.now.count w.now.queue w.now.via held.now share.now
+        × IsSign sign }
+    ensures { result ≡ least_break w.now.count (candidate_of p.now sign w.now held.now share.now) }
 {
-    let mut best = Break::Nothing;
-    let mut k: usize = 1;
-    while k < count {
-        best = nearer(
-            best,
-            candidate(k, sign, queue, via, left, right, kind, held, share),
-        );
-        k += 1;
+    let mut best = None;
+    for k in 1..w.count {
+        best = nearer(best, candidate(p, k, sign, w, held, share));
     }
     best
 }

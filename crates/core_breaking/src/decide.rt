@@ -6,10 +6,11 @@ ghost use Rattle.core_breaking.specs.Decide.{meeting_of, decided, within_block};
 ghost use Rattle.ground.specs.Limits.{distance_most};
 
 use crate::breaking::nearer;
-use crate::{Break, Outcome, Side};
+use crate::{BreakingPoint, Outcome, Side};
 use core_elimination::Sums;
+use exact::Fraction;
 use exact::compare::compare;
-use exact::{Fraction, Order};
+use std::cmp::Ordering;
 
 // The push at which the gap is tight, over the sum of the two blocks' weights.
 fn meeting(h: i64, one: Sums, two: Sums) -> i64
@@ -29,33 +30,25 @@ pub fn decide(h: i64, one: Side, two: Side) -> Outcome
         × BreakInRange two.first }
     ensures { result ≡ decided h one two }
 {
-    let s = one.sums;
-    let t = two.sums;
-    let f = one.first;
-    let g = two.first;
-    let first = nearer(f, g);
-    match first {
-        Break::Nothing => Outcome::Reached,
-        Break::At(e, r, p) => {
-            let tight = Fraction {
-                num: meeting(h, s, t),
-                den: s.weight + t.weight,
-            };
-            match compare(Fraction { num: r, den: p }, tight) {
-                Order::Below => Outcome::Dropped(e),
-                Order::Same => Outcome::Reached,
-                Order::Above => Outcome::Reached,
-            }
-        }
+    let Some(first) = nearer(one.first, two.first) else {
+        return Outcome::Reached;
+    };
+    let tight = Fraction {
+        num: meeting(h, one.sums, two.sums),
+        den: one.sums.weight + two.sums.weight,
+    };
+    match compare(first.push, tight) {
+        Ordering::Less => Outcome::Dropped(first.gap),
+        Ordering::Equal | Ordering::Greater => Outcome::Reached,
     }
 }
 
 // Within one block: the first breaking point gives way; where there is none, nothing does.
-pub fn within(first: Break) -> Outcome
+pub fn within(first: Option<BreakingPoint>) -> Outcome
     ensures { result ≡ within_block first }
 {
     match first {
-        Break::Nothing => Outcome::Ring,
-        Break::At(e, _, _) => Outcome::Dropped(e),
+        None => Outcome::Ring,
+        Some(point) => Outcome::Dropped(point.gap),
     }
 }

@@ -1,6 +1,6 @@
 -- How large the numbers of a block get: its sums, the numerators of its places, and what elimination starts from.
-use mathlib.Core.Path.{◌≡◌, ap}
-use mathlib.Core.Logic.{◌⊎◌, ⊎_elim}
+use mathlib.Core.Path.{◌≡◌, ◌∙◌, refl, ap, ap₂}
+use mathlib.Core.Logic.{⊎_elim}
 use mathlib.Core.List.{List}
 use Prim.Native.Nat.{ℕ, ◌+◌, ◌*◌, ◌^◌, ◌≤◌, ◌<◌}
 use native.Mathlib.Omega.{arith}
@@ -8,14 +8,14 @@ use native.Mathlib.Nat.{mul-le-mul}
 use lib.IntN.{ℤ, pos, negsuc, neg_ℤ, nat_abs, ◌+ℤ◌, ◌-ℤ◌, ◌*ℤ◌}
 use lib.Signed.{◌≤ℤ◌}
 use mir.Syntax.{w64}
-use mir.Val.{SFits, to_z, of_z}
+use mir.Val.{SFits}
 use mir.ValLaws.{to_z-of_z}
 use Rattle.algebra.proofs.Whole.{parts_nat_abs, le_parts, parts_le, le_trans, no_nn}
-use Rattle.algebra.proofs.Quotient.{nat_abs-neg, nat_abs-*, nat_abs-+}
+use Rattle.algebra.proofs.Quotient.{nat_abs-neg, nat_abs-*, nat_abs-+, kept}
 use Rattle.algebra.proofs.Sum.{sum_bound, sum_term_le}
 use Rattle.ground.specs.Entries.{nat, int}
 use Rattle.core_elimination.specs.declared.Sums.{Sums}
-use Rattle.core_elimination.specs.Block.{Listed, InRange, SumsInRange, weight_sum, wanted_sum, Given, numerator, surplus_at}
+use Rattle.core_elimination.specs.Block.{IsSign, Listed, InRange, SumsInRange, weight_sum, wanted_sum, Given, numerator, surplus_at}
 use Rattle.core_elimination.specs.Eliminate.{Small}
 
 -- ---- magnitudes
@@ -41,8 +41,34 @@ fits_small (pos n) h = record { sfits = h }
 fits_small (negsuc n) h = record { sfits = omega arith }
 
 -- so that it is read back as it was written
-pub read_back : (z : ℤ) {n : ℕ} → nat_abs z ≤ n → n < 2 ^ 63 → to_z w64 (of_z w64 z) ≡ z
+pub read_back : (z : ℤ) {n : ℕ} → nat_abs z ≤ n → n < 2 ^ 63 → kept z ≡ z
 read_back z h l = to_z-of_z w64 z (fits_small z (omega arith))
+
+-- what the machine reckons as a is the number b, and that is m at most
+pub record Reads (a b : ℤ) (m : ℕ) : Type 0 where
+  pub is : a ≡ b
+  pub most : nat_abs b ≤ m
+
+-- then it fits
+pub fit : {a b : ℤ} {m : ℕ} → Reads a b m → m < 2 ^ 63 → SFits w64 a
+fit {b = b} r l = rw r.is (fits_small b (omega (arith, r.most)))
+
+-- and is the same as a machine word
+pub word : {a b : ℤ} {m : ℕ} → Reads a b m → m < 2 ^ 63 → Reads (kept a) b m
+word {b = b} r l = record { is = ap kept r.is ∙ read_back b r.most l; most = r.most }
+
+pub same : (z : ℤ) {m : ℕ} → nat_abs z ≤ m → Reads z z m
+same z h = record { is = refl; most = h }
+
+module _ {a b c d : ℤ} {m n : ℕ} (r : Reads a b m) (q : Reads c d n) where
+  pub plus : Reads (a +ℤ c) (b +ℤ d) (m + n)
+  plus = record { is = ap₂ ◌+ℤ◌ r.is q.is; most = plus_most b d r.most q.most }
+
+  pub minus : Reads (a -ℤ c) (b -ℤ d) (m + n)
+  minus = record { is = ap₂ ◌-ℤ◌ r.is q.is; most = minus_most b d r.most q.most }
+
+  pub times : Reads (a *ℤ c) (b *ℤ d) (m * n)
+  times = record { is = ap₂ ◌*ℤ◌ r.is q.is; most = times_most b d r.most q.most }
 
 -- ---- the sums
 
@@ -50,40 +76,39 @@ module _ {count : ℕ} {queue : List ℕ} {off wanted weight : List ℤ} (r : In
   pub weight_small : (k : ℕ) → k < count → nat_abs (int weight (nat queue k)) ≤ 3600
   weight_small k h = above_most (r.weight_low k h) (r.weight_high k h)
 
-  pub gap_small : (k : ℕ) → k < count → nat_abs (int wanted (nat queue k) -ℤ int off (nat queue k)) ≤ 1540000
-  gap_small k h = minus_most (int wanted (nat queue k)) (int off (nat queue k)) (r.wanted_bound k h) (r.off_most k h)
+  -- the machine's words for a label's numbers, and for its part of P
+  pub weight_word : (k : ℕ) → k < count → Reads (kept (int weight (nat queue k))) (int weight (nat queue k)) 3600
+  weight_word k h = word (same _ (weight_small k h)) (omega arith)
 
-  pub moment_small : (k : ℕ) → k < count → nat_abs (int weight (nat queue k) *ℤ (int wanted (nat queue k) -ℤ int off (nat queue k))) ≤ 5544000000
-  moment_small k h = times_most (int weight (nat queue k)) (int wanted (nat queue k) -ℤ int off (nat queue k)) (weight_small k h) (gap_small k h)
+  pub wanted_word : (k : ℕ) → k < count → Reads (kept (int wanted (nat queue k))) (int wanted (nat queue k)) 600000
+  wanted_word k h = word (same _ (r.wanted_bound k h)) (omega arith)
 
-  -- the machine's words for a label's numbers hold those numbers
-  pub label_read : (k : ℕ) → k < count → (to_z w64 (of_z w64 (int weight (nat queue k))) ≡ int weight (nat queue k))
-      × (to_z w64 (of_z w64 (int wanted (nat queue k))) ≡ int wanted (nat queue k))
-      × (to_z w64 (of_z w64 (int off (nat queue k))) ≡ int off (nat queue k))
-  label_read k h = (
-    read_back (int weight (nat queue k)) (weight_small k h) (omega arith),
-    read_back (int wanted (nat queue k)) (r.wanted_bound k h) (omega arith),
-    read_back (int off (nat queue k)) (r.off_most k h) (omega arith),
-  )
+  pub off_word : (k : ℕ) → k < count → Reads (kept (int off (nat queue k))) (int off (nat queue k)) 940000
+  off_word k h = word (same _ (r.off_most k h)) (omega arith)
+
+  pub moment_word : (k : ℕ) → k < count
+      → Reads (kept (int weight (nat queue k)) *ℤ kept (kept (int wanted (nat queue k)) -ℤ kept (int off (nat queue k))))
+      (int weight (nat queue k) *ℤ (int wanted (nat queue k) -ℤ int off (nat queue k))) 5544000000
+  moment_word k h = times (weight_word k h) (word (minus (wanted_word k h) (off_word k h)) (omega arith))
 
   -- of the first n labels
   pub weight_sum-small : (n : ℕ) → n ≤ count → nat_abs (weight_sum n queue weight) ≤ n * 3600
   weight_sum-small n l = sum_bound n (λ k. int weight (nat queue k)) 3600 (λ k h. weight_small k (omega arith))
 
   pub wanted_sum-small : (n : ℕ) → n ≤ count → nat_abs (wanted_sum n queue off wanted weight) ≤ n * 5544000000
-  wanted_sum-small n l = sum_bound n (λ k. int weight (nat queue k) *ℤ (int wanted (nat queue k) -ℤ int off (nat queue k))) 5544000000 (λ k h. moment_small k (omega arith))
+  wanted_sum-small n l = sum_bound n (λ k. int weight (nat queue k) *ℤ (int wanted (nat queue k) -ℤ int off (nat queue k))) 5544000000 (λ k h. (moment_word k (omega arith)).most)
 
-  -- and with the next label
-  pub weight_sum-fits : (k : ℕ) → k < count → count ≤ 48 → SFits w64 (weight_sum k queue weight +ℤ int weight (nat queue k))
-  weight_sum-fits k h l =
-      fits_small (weight_sum k queue weight +ℤ int weight (nat queue k))
-      (omega (arith, nat_abs-+ (weight_sum k queue weight) (int weight (nat queue k)), weight_sum-small k (omega arith), weight_small k h))
+  -- the sums, and with the next label
+  pub weight_more : (k : ℕ) → k < count → count ≤ 48 → (t : ℤ) → t ≡ weight_sum k queue weight
+      → Reads (t +ℤ kept (int weight (nat queue k))) (weight_sum k queue weight +ℤ int weight (nat queue k)) 176400
+  weight_more k h l t e =
+      plus {m = 172800} (record { is = e; most = omega (arith, weight_sum-small k (omega arith)) }) (weight_word k h)
 
-  pub wanted_sum-fits : (k : ℕ) → k < count → count ≤ 48 → SFits w64 (wanted_sum k queue off wanted weight +ℤ int weight (nat queue k) *ℤ (int wanted (nat queue k) -ℤ int off (nat queue k)))
-  wanted_sum-fits k h l =
-      let m : ℤ = int weight (nat queue k) *ℤ (int wanted (nat queue k) -ℤ int off (nat queue k)) in
-      fits_small (wanted_sum k queue off wanted weight +ℤ m)
-      (omega (arith, nat_abs-+ (wanted_sum k queue off wanted weight) m, wanted_sum-small k (omega arith), moment_small k h))
+  pub wanted_more : (k : ℕ) → k < count → count ≤ 48 → (t : ℤ) → t ≡ wanted_sum k queue off wanted weight
+      → Reads (t +ℤ kept (kept (int weight (nat queue k)) *ℤ kept (kept (int wanted (nat queue k)) -ℤ kept (int off (nat queue k)))))
+      (wanted_sum k queue off wanted weight +ℤ int weight (nat queue k) *ℤ (int wanted (nat queue k) -ℤ int off (nat queue k))) 271656000000
+  wanted_more k h l t e =
+      plus {m = 266112000000} (record { is = e; most = omega (arith, wanted_sum-small k (omega arith)) }) (word (moment_word k h) (omega arith))
 
   above_zero : (k : ℕ) → k < count → pos 0 ≤ℤ int weight (nat queue k)
   above_zero k h = parts_le (omega (arith, le_parts (r.weight_low k h)))
@@ -101,58 +126,62 @@ module _ {count : ℕ} {queue : List ℕ} {off wanted weight : List ℤ} (r : In
 
 -- ---- what the sums give
 
+-- a numerator and how far that is from the wanted place, as the machine reckons them
+abbrev numerator_in : Sums → ℤ → ℤ
+numerator_in s o = kept s.wanted +ℤ kept (kept o *ℤ kept s.weight)
+
+abbrev lack_in : Sums → ℤ → ℤ → ℤ
+lack_in s o d = kept (numerator_in s o) -ℤ kept (kept d *ℤ kept s.weight)
+
 module _ {s : Sums} (i : SumsInRange s) where
   pub total_small : nat_abs s.weight ≤ 172800
   total_small = above_most i.weight_low i.weight_high
 
-  pub numerator_small : (o : ℤ) → nat_abs o ≤ 940000 → nat_abs (s.wanted +ℤ o *ℤ s.weight) ≤ 428544000000
-  numerator_small o h = plus_most s.wanted (o *ℤ s.weight) i.wanted_bound (times_most o s.weight h total_small)
+  pub total_word : Reads (kept s.weight) s.weight 172800
+  total_word = word (same _ total_small) (omega arith)
 
-  pub sums_read : (to_z w64 (of_z w64 s.weight) ≡ s.weight) × (to_z w64 (of_z w64 s.wanted) ≡ s.wanted)
-  sums_read = (read_back s.weight total_small (omega arith), read_back s.wanted i.wanted_bound (omega arith))
+  pub wanted_total : Reads (kept s.wanted) s.wanted 266112000000
+  wanted_total = word (same _ i.wanted_bound) (omega arith)
 
-  pub numerator_fits : (o : ℤ) → nat_abs o ≤ 940000 → SFits w64 (o *ℤ s.weight) × SFits w64 (s.wanted +ℤ o *ℤ s.weight)
-  numerator_fits o h = (
-    fits_small (o *ℤ s.weight) (omega (arith, times_most o s.weight h total_small)),
-    fits_small (s.wanted +ℤ o *ℤ s.weight) (omega (arith, numerator_small o h)),
-  )
+  pub sums_read : (kept s.weight ≡ s.weight) × (kept s.wanted ≡ s.wanted)
+  sums_read = (total_word.is, wanted_total.is)
+
+  pub numerator_word : (o : ℤ) → nat_abs o ≤ 940000
+      → Reads (numerator_in s o) (s.wanted +ℤ o *ℤ s.weight) 428544000000
+  numerator_word o h =
+      plus wanted_total (word (times (word (same o h) (omega arith)) total_word) (omega arith))
+
+pub sign_word : {sign : ℤ} → IsSign sign → Reads (kept sign) sign 1
+sign_word {sign} e =
+    ⊎_elim
+    (λ (p : sign ≡ pos 1). rw p (word (same (pos 1) (omega arith)) (omega arith)))
+    (λ (p : sign ≡ negsuc 0). rw p (word (same (negsuc 0) (omega arith)) (omega arith)))
+    e
 
 -- and what elimination starts from
 
 module _ {count : ℕ} {queue : List ℕ} {off wanted weight : List ℤ} {s : Sums} (r : InRange count queue off wanted weight) (i : SumsInRange s) (k : ℕ) (h : k < count) where
-  pub lack_small : nat_abs (numerator s off (nat queue k) -ℤ int wanted (nat queue k) *ℤ s.weight) ≤ 532224000000
-  lack_small =
-      let o = int off (nat queue k) in
-      let d = int wanted (nat queue k) in
-      minus_most (s.wanted +ℤ o *ℤ s.weight) (d *ℤ s.weight) (numerator_small i o (r.off_most k h)) (times_most d s.weight (r.wanted_bound k h) (total_small i))
+  pub wanted_times : Reads (kept (int wanted (nat queue k)) *ℤ kept s.weight) (int wanted (nat queue k) *ℤ s.weight) 103680000000
+  wanted_times = times (wanted_word r k h) (total_word i)
 
-  pub lack_fits : SFits w64 (int wanted (nat queue k) *ℤ s.weight) × SFits w64 (numerator s off (nat queue k) -ℤ int wanted (nat queue k) *ℤ s.weight)
-  lack_fits =
-      let d = int wanted (nat queue k) in (
-        fits_small (d *ℤ s.weight) (omega (arith, times_most d s.weight (r.wanted_bound k h) (total_small i))),
-        fits_small (numerator s off (nat queue k) -ℤ d *ℤ s.weight) (omega (arith, lack_small)),
-      )
+  pub lack_word : Reads (lack_in s (int off (nat queue k)) (int wanted (nat queue k))) (numerator s off (nat queue k) -ℤ int wanted (nat queue k) *ℤ s.weight) 532224000000
+  lack_word =
+      minus (word (numerator_word i (int off (nat queue k)) (r.off_most k h)) (omega arith)) (word wanted_times (omega arith))
 
-  weighed_small : nat_abs (int weight (nat queue k) *ℤ (numerator s off (nat queue k) -ℤ int wanted (nat queue k) *ℤ s.weight)) ≤ 1916006400000000
-  weighed_small =
-      times_most (int weight (nat queue k)) (numerator s off (nat queue k) -ℤ int wanted (nat queue k) *ℤ s.weight) (weight_small r k h) lack_small
+  pub weighed_word :
+      Reads (kept (int weight (nat queue k)) *ℤ kept (lack_in s (int off (nat queue k)) (int wanted (nat queue k))))
+      (int weight (nat queue k) *ℤ (numerator s off (nat queue k) -ℤ int wanted (nat queue k) *ℤ s.weight)) 1916006400000000
+  weighed_word = times (weight_word r k h) (word lack_word (omega arith))
 
-  pub surplus_small : nat_abs (surplus_at s off wanted weight (nat queue k)) ≤ 4000000000000000
-  surplus_small =
-      let z = int weight (nat queue k) *ℤ (numerator s off (nat queue k) -ℤ int wanted (nat queue k) *ℤ s.weight) in
-      omega (arith, nat_abs-* (pos 2) z, weighed_small)
+  pub surplus_word :
+      Reads (pos 2 *ℤ kept (kept (int weight (nat queue k)) *ℤ kept (lack_in s (int off (nat queue k)) (int wanted (nat queue k)))))
+      (surplus_at s off wanted weight (nat queue k)) 3832012800000000
+  surplus_word = times {m = 2} (same (pos 2) (omega arith)) (word weighed_word (omega arith))
 
-  pub surplus_fits : SFits w64 (int weight (nat queue k) *ℤ (numerator s off (nat queue k) -ℤ int wanted (nat queue k) *ℤ s.weight)) × SFits w64 (surplus_at s off wanted weight (nat queue k))
-  surplus_fits = (
-    fits_small (int weight (nat queue k) *ℤ (numerator s off (nat queue k) -ℤ int wanted (nat queue k) *ℤ s.weight)) (omega (arith, weighed_small)),
-    fits_small (surplus_at s off wanted weight (nat queue k)) (omega (arith, surplus_small)),
-  )
-
--- a sign changes no magnitude
-pub signed_small : (sign a : ℤ) {n : ℕ} → (sign ≡ pos 1) ⊎ (sign ≡ negsuc 0) → nat_abs a ≤ n → nat_abs (sign *ℤ a) ≤ n
-signed_small sign a {n} e h =
-    let one : nat_abs sign ≡ 1 = ⊎_elim (λ (p : sign ≡ pos 1). ap nat_abs p) (λ (p : sign ≡ negsuc 0). ap nat_abs p) e in
-    rw (nat_abs-* sign a, one) (omega arith)
+  pub signed_word : {sign : ℤ} → IsSign sign
+      → Reads (kept sign *ℤ kept (pos 2 *ℤ kept (kept (int weight (nat queue k)) *ℤ kept (lack_in s (int off (nat queue k)) (int wanted (nat queue k))))))
+      (sign *ℤ surplus_at s off wanted weight (nat queue k)) 3832012800000000
+  signed_word e = times (sign_word e) (word surplus_word (omega arith))
 
 -- a work array of small entries is one that elimination takes
 pub given_small : {count : ℕ} {queue : List ℕ} {f : ℕ → ℤ} {before after : List ℤ} → Given count queue f before after

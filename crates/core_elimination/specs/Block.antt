@@ -1,5 +1,5 @@
 -- The sums over a block and what they give: its labels are the first count entries of the queue.
-use Rattle.std.specs.Prelude.{ℕ, ◌≤◌, ◌<◌, ◌≡◌, ◌≢◌, cond, List, eqb, ℤ, pos, nat_abs, ◌+ℤ◌, ◌-ℤ◌, ◌*ℤ◌, ◌≤ℤ◌}
+use Rattle.std.specs.Prelude.{ℕ, ◌≤◌, ◌<◌, ◌≡◌, ◌≢◌, ◌⊎◌, cond, List, eqb, ℤ, pos, negsuc, nat_abs, ◌+ℤ◌, ◌-ℤ◌, ◌*ℤ◌, ◌≤ℤ◌}
 use Rattle.algebra.specs.Sum.{sum}
 use Rattle.core_elimination.specs.declared.Sums.{Sums}
 use Rattle.ground.specs.Entries.{nat, int}
@@ -10,6 +10,10 @@ pub record Listed (count : ℕ) (queue : List ℕ) : Type 0 where
   pub count_most : count ≤ labels_most
   pub labels_in : (k : ℕ) → k < count → nat queue k < labels_most
   pub distinct : (j k : ℕ) → j < k → k < count → nat queue j ≢ nat queue k
+
+-- the sign of a push at the end of a gap that it comes from, or at the other
+abbrev pub IsSign : ℤ → Type 0
+IsSign s = (s ≡ pos 1) ⊎ (s ≡ negsuc 0)
 
 -- the core's limits, and offsets as a search gives them
 pub record InRange (count : ℕ) (queue : List ℕ) (off wanted weight : List ℤ) : Type 0 where

@@ -1,76 +1,28 @@
-// Sums over a block, the places that they give its labels, and the shares that elimination starts from.
-ghost use Rattle.std.specs.Prelude.{◌≡◌, ◌⊎◌, ℕ, ◌<◌, ◌≤◌, pos, negsuc, nat_abs, ◌+ℤ◌, ◌-ℤ◌, ◌*ℤ◌};
-ghost use Rattle.std.specs.Int.{w64};
-ghost use Rattle.std.proofs.Common.{SFits};
+// Sums over a block, the places that they give its labels, and the shares that elimination starts from. (Each loop reads
+// other arrays: as one loop that is given a closure they would need a contract for each closure beside their own.)
+ghost use Rattle.std.specs.Prelude.{◌≡◌, ℕ, ◌<◌, ◌≤◌, nat_abs, ◌*ℤ◌};
 ghost use Rattle.ground.specs.Entries.{nat, int};
-ghost use Rattle.core_elimination.specs.Block.{Listed, InRange, weight_sum, wanted_sum, SumsInRange, Given, numerator, surplus_at, only_at};
+ghost use Rattle.core_elimination.specs.Block.{IsSign, Listed, InRange, weight_sum, wanted_sum, SumsInRange, Given, numerator, surplus_at, only_at};
 ghost use Rattle.ground.specs.Limits.{offset_most};
 
-use crate::{Sums, plus};
+use crate::Sums;
+use core_forest::search::Work;
 use ground::Label;
-use ground::lengths::measured_labels;
-use ground::limits::{LabelIndices, LabelInts};
-
-// A label's part of P.
-fn moment_of(weight: i64, wanted: i64, off: i64) -> i64
-    requires { SFits w64 (wanted -ℤ off) × SFits w64 (weight *ℤ (wanted -ℤ off)) }
-    ensures { result ≡ weight *ℤ (wanted -ℤ off) }
-{
-    weight * (wanted - off)
-}
-
-// The numerator of a label's place over W.
-fn numerator_of(moment: i64, off: i64, total: i64) -> i64
-    requires { SFits w64 (off *ℤ total) × SFits w64 (moment +ℤ off *ℤ total) }
-    ensures { result ≡ moment +ℤ off *ℤ total }
-{
-    moment + off * total
-}
-
-// How far that place is from the wanted one, times W.
-fn lack_of(place: i64, wanted: i64, total: i64) -> i64
-    requires { SFits w64 (wanted *ℤ total) × SFits w64 (place -ℤ wanted *ℤ total) }
-    ensures { result ≡ place -ℤ wanted *ℤ total }
-{
-    place - wanted * total
-}
-
-// What the label lacks of its balance there.
-fn surplus_of(weight: i64, lack: i64) -> i64
-    requires { SFits w64 (weight *ℤ lack) × SFits w64 (pos 2 *ℤ (weight *ℤ lack)) }
-    ensures { result ≡ pos 2 *ℤ (weight *ℤ lack) }
-{
-    2 * (weight * lack)
-}
-
-// A product with a sign.
-fn signed(sign: i64, a: i64) -> i64
-    requires { SFits w64 (sign *ℤ a) }
-    ensures { result ≡ sign *ℤ a }
-{
-    sign * a
-}
+use ground::limits::LabelInts;
+use ground::problem::Problem;
 
 // The sums over the block: W and P.
-pub fn sums(
-    count: usize,
-    queue: &LabelIndices,
-    off: &LabelInts,
-    wanted: &LabelInts,
-    weight: &LabelInts,
-) -> Sums
-    requires { Listed count queue.now × InRange count queue.now off.now wanted.now weight.now }
-    ensures { (result.weight ≡ weight_sum count queue.now weight.now)
-        × (result.wanted ≡ wanted_sum count queue.now off.now wanted.now weight.now) }
+pub fn sums(p: &Problem, w: &Work) -> Sums
+    requires { Listed w.now.count w.now.queue × InRange w.now.count w.now.queue w.now.off p.now.wanted p.now.weight }
+    ensures { (result.weight ≡ weight_sum w.now.count w.now.queue p.now.weight)
+        × (result.wanted ≡ wanted_sum w.now.count w.now.queue w.now.off p.now.wanted p.now.weight) }
 {
     let mut total: i64 = 0;
     let mut moment: i64 = 0;
-    let mut k: usize = 0;
-    while k < count {
-        let x = queue[k];
-        total = plus(total, weight[x]);
-        moment = plus(moment, moment_of(weight[x], wanted[x], off[x]));
-        k += 1;
+    for k in 0..w.count {
+        let x = w.queue[k];
+        total += p.weight[x];
+        moment += p.weight[x] * (p.wanted[x] - w.off[x]);
     }
     Sums {
         weight: total,
@@ -79,90 +31,54 @@ pub fn sums(
 }
 
 // Writes the places of the block's labels: num[x] over den[x].
-pub fn places(
-    count: usize,
-    queue: &LabelIndices,
-    off: &LabelInts,
-    s: Sums,
-    num: &mut LabelInts,
-    den: &mut LabelInts,
-)
-    requires { Listed count queue.now
+pub fn places(w: &Work, s: Sums, num: &mut LabelInts, den: &mut LabelInts)
+    requires { Listed w.now.count w.now.queue
         × SumsInRange s
-        × ((k : ℕ) → k < count → nat_abs (int off.now (nat queue.now k)) ≤ offset_most) }
-    ensures { Given count queue.now (numerator s off.now) num.old num.new
-        × Given count queue.now (λ x. s.weight) den.old den.new }
+        × ((k : ℕ) → k < w.now.count → nat_abs (int w.now.off (nat w.now.queue k)) ≤ offset_most) }
+    ensures { Given w.now.count w.now.queue (numerator s w.now.off) num.old num.new
+        × Given w.now.count w.now.queue (λ x. s.weight) den.old den.new }
 {
-    let total = s.weight;
-    measured_labels(num);
-    measured_labels(den);
-    let mut k: usize = 0;
-    while k < count {
-        let x = queue[k];
-        num[x] = numerator_of(s.wanted, off[x], total);
-        den[x] = total;
-        k += 1;
+    for k in 0..w.count {
+        let x = w.queue[k];
+        num[x] = s.wanted + w.off[x] * s.weight;
+        den[x] = s.weight;
     }
 }
 
-// Gives each label of the block what it lacks of its balance, times the sign (1 or -1).
-pub fn surplus(
-    count: usize,
-    queue: &LabelIndices,
-    off: &LabelInts,
-    wanted: &LabelInts,
-    weight: &LabelInts,
-    s: Sums,
-    sign: i64,
-    held: &mut LabelInts,
-)
-    requires { Listed count queue.now
-        × InRange count queue.now off.now wanted.now weight.now
+// Gives each label of the block what it lacks of its balance, times the sign (1 or -1, a number as it is multiplied by).
+pub fn surplus(p: &Problem, w: &Work, s: Sums, sign: i64, held: &mut LabelInts)
+    requires { Listed w.now.count w.now.queue
+        × InRange w.now.count w.now.queue w.now.off p.now.wanted p.now.weight
         × SumsInRange s
-        × ((sign ≡ pos 1) ⊎ (sign ≡ negsuc 0)) }
-    ensures { Given count queue.now (λ x. sign *ℤ surplus_at s off.now wanted.now weight.now x) held.old
+        × IsSign sign }
+    ensures { Given w.now.count w.now.queue (λ x. sign *ℤ surplus_at s w.now.off p.now.wanted p.now.weight x) held.old
         held.new }
 {
-    measured_labels(held);
-    let mut k: usize = 0;
-    while k < count {
-        let x = queue[k];
-        let place = numerator_of(s.wanted, off[x], s.weight);
-        let lack = lack_of(place, wanted[x], s.weight);
-        held[x] = signed(sign, surplus_of(weight[x], lack));
-        k += 1;
+    for k in 0..w.count {
+        let x = w.queue[k];
+        let lack = s.wanted + w.off[x] * s.weight - p.wanted[x] * s.weight;
+        held[x] = sign * (2 * (p.weight[x] * lack));
     }
 }
 
 // Gives each label of the block its weight.
-pub fn shares(count: usize, queue: &LabelIndices, weight: &LabelInts, held: &mut LabelInts)
-    requires { Listed count queue.now }
-    ensures { Given count queue.now (int weight.now) held.old held.new }
+pub fn shares(p: &Problem, w: &Work, held: &mut LabelInts)
+    requires { Listed w.now.count w.now.queue }
+    ensures { Given w.now.count w.now.queue (int p.now.weight) held.old held.new }
 {
-    measured_labels(held);
-    let mut k: usize = 0;
-    while k < count {
-        let x = queue[k];
-        held[x] = weight[x];
-        k += 1;
+    for k in 0..w.count {
+        let x = w.queue[k];
+        held[x] = p.weight[x];
     }
 }
 
 // Gives the whole share to label v, and nothing to the block's other labels.
-pub fn share_at(count: usize, queue: &LabelIndices, v: Label, share: i64, held: &mut LabelInts)
-    requires { Listed count queue.now }
-    ensures { Given count queue.now (only_at v.0 share) held.old held.new }
+pub fn share_at(w: &Work, v: Label, share: i64, held: &mut LabelInts)
+    requires { Listed w.now.count w.now.queue }
+    ensures { Given w.now.count w.now.queue (only_at v.0 share) held.old held.new }
 {
-    let only = v.0;
-    measured_labels(held);
-    let mut k: usize = 0;
-    while k < count {
-        let x = queue[k];
-        if x == only {
-            held[x] = share;
-        } else {
-            held[x] = 0;
-        }
-        k += 1;
+    for k in 0..w.count {
+        let x = w.queue[k];
+        held[x] = if Label(x) == v { share } else { 0 };
     }
 }

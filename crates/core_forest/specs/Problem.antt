@@ -1,22 +1,11 @@
 -- A sheet as the core's work arrays hold it, and its whole numbers.
-use Rattle.std.specs.Prelude.{ℕ, ◌≤◌, ◌<◌, Bool, List, [], eqb, ℤ, pos, nat_abs, ◌≤ℤ◌}
+use Rattle.std.specs.Prelude.{ℕ, ◌≤◌, ◌<◌, Bool, List, [], eqb, pos, nat_abs, ◌≤ℤ◌}
 use Rattle.least_move.specs.Sheet.{Sheet, label, kind_of}
 use Rattle.least_move.specs.States.{Numbers, Independent}
 use Rattle.core_forest.specs.Tree.{Graph}
 use Rattle.ground.specs.Entries.{nat, int}
 use Rattle.ground.specs.Limits.{core_wanted_most, core_weight_most, distance_most, gaps_most, labels_most}
-use Rattle.ground.specs.Views.{Param}
-use Rattle.std.specs.Borrow.{Bor}
-
-pub record Problem : Type 0 where
-  pub labels : ℕ
-  pub gaps : ℕ
-  pub left : List ℕ
-  pub right : List ℕ
-  pub distance : List ℤ
-  pub kind : List ℕ
-  pub wanted : List ℤ
-  pub weight : List ℤ
+use Rattle.ground.specs.declared.problem.Problem.{Problem}
 
 -- the core's limits, the widest that any of its users needs
 pub record Limits (p : Problem) : Type 0 where
@@ -74,20 +63,6 @@ sheet_from p = record {
   gap = λ e. record { left = label (nat p.left e.0); right = label (nat p.right e.0); distance = int p.distance e.0; kind = kind_of (nat p.kind e.0) };
 }
 
--- ---- the problem in the work arrays, as a `requires` and as an `ensures` sees them; and of what reads no kind
-
-abbrev pub problem_now : (labels gaps : ℕ) (left right : Bor (List ℕ)) (distance : Bor (List ℤ)) (kind : Bor (List ℕ)) (wanted weight : Bor (List ℤ)) → Problem
-problem_now labels gaps left right distance kind wanted weight =
-    record { labels = labels; gaps = gaps; left = left.now; right = right.now; distance = distance.now; kind = kind.now; wanted = wanted.now; weight = weight.now }
-
-abbrev pub problem_lent : (labels gaps : ℕ) (left right : Param ℕ) (distance : Param ℤ) (kind : Param ℕ) (wanted weight : Param ℤ) → Problem
-problem_lent labels gaps left right distance kind wanted weight =
-    problem_now labels gaps left.entry right.entry distance.entry kind.entry wanted.entry weight.entry
-
-abbrev pub plain_now : (labels gaps : ℕ) (left right : Bor (List ℕ)) (distance : Bor (List ℤ)) (wanted weight : Bor (List ℤ)) → Problem
-plain_now labels gaps left right distance wanted weight =
-    record { labels = labels; gaps = gaps; left = left.now; right = right.now; distance = distance.now; kind = []; wanted = wanted.now; weight = weight.now }
-
-abbrev pub plain_lent : (labels gaps : ℕ) (left right : Param ℕ) (distance : Param ℤ) (wanted weight : Param ℤ) → Problem
-plain_lent labels gaps left right distance wanted weight =
-    plain_now labels gaps left.entry right.entry distance.entry wanted.entry weight.entry
+-- the problem of what reads no kind
+abbrev pub plain : Problem → Problem
+plain p = with_kind p []

@@ -2,3 +2,4 @@
 // The forest of marked gaps, searched from a root.
 pub mod chain;
 pub mod search;
+pub mod state;

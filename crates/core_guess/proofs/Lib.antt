@@ -1,4 +1,3 @@
-pub mod WholeDoubles
 pub mod Joining
 pub mod Wishing
 pub mod WrongGuesses

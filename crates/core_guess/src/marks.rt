@@ -5,18 +5,16 @@ ghost use Rattle.ground.specs.Limits.{gaps_most};
 
 use ground::limits::GapBytes;
 
-// Whether a gap is marked in a carried record.
+// Whether a gap is marked in a carried record. (Without a way out of the loop, so that a vector holds many marks.)
 pub fn any_marked(gaps: usize, carried: &GapBytes) -> bool
     requires { gaps ≤ gaps_most }
     ensures { result ≡ any_marked gaps carried.now }
 {
     let mut some = false;
-    let mut e: usize = 0;
-    while e < gaps {
+    for e in 0..gaps {
         if carried[e] == 1 {
             some = true;
         }
-        e += 1;
     }
     some
 }

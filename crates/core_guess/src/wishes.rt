@@ -1,4 +1,4 @@
-// Bytes in which the second guess wishes gaps.
+// Bytes in which the second guess wishes gaps: 1 for a gap that is wished, as the carried record has it for a mark.
 ghost use Rattle.std.specs.Prelude.{◌≤◌};
 ghost use Rattle.core_guess.specs.Guess.{Unwished, Wished};
 ghost use Rattle.ground.specs.Limits.{gaps_most};
@@ -11,9 +11,8 @@ pub fn wish_one(gaps: usize, e: GapNumber, wish: &mut GapBytes)
     requires { gaps ≤ gaps_most }
     ensures { Wished gaps wish.old wish.new }
 {
-    let k = e.0;
-    if k < gaps {
-        wish[k] = 1;
+    if e.0 < gaps {
+        wish[e.0] = 1;
     }
 }
 
@@ -22,9 +21,5 @@ pub fn wish_none(gaps: usize, wish: &mut GapBytes)
     requires { gaps ≤ gaps_most }
     ensures { Unwished gaps wish.old wish.new }
 {
-    let mut e: usize = 0;
-    while e < gaps {
-        wish[e] = 0;
-        e += 1;
-    }
+    wish[..gaps].fill(0);
 }

@@ -1,128 +1,83 @@
 // Of the gaps into a block the one that lacks most, for the first guess.
 ghost use Rattle.std.specs.Prelude.{◌<◌};
 ghost use Rattle.core_guess.specs.Guess.{Guessed};
-ghost use Rattle.ground.specs.Limits.{bytes_most, gaps_most};
+ghost use Rattle.ground.specs.Limits.{gaps_most};
 
-use core_guess::doubles::TOLERANCE;
-use core_guess::room::NO_GAP;
-use core_links::state::{
-    CIRCLE, END, Found, Links, Spots, block_of, distance_of, end_of, entry, link, place_of,
-};
-use ground::bytes::narrow;
-use ground::limits::{EXACTLY, GAPS, GapBytes, GapIndices, GapInts};
+use core_guess::doubles::{TOLERANCE, double};
+use core_links::state::{Links, MaybeGap, Spots, entry};
+use ground::limits::{EXACTLY, GAPS};
+use ground::problem::Problem;
 use ground::{Block, GapNumber, Label};
 
 // Whether gap e starts in block b.
-pub fn is_from(e: GapNumber, b: Block, left: &GapIndices, links: &Links) -> bool
+pub fn is_from(e: GapNumber, b: Block, p: &Problem, links: &Links) -> bool
     requires { e.0 < gaps_most }
     ensures { Guessed result }
 {
-    let a = block_of(end_of(e, left), links);
-    a.0 == b.0
+    links.block_of(Label(p.left[e.0])) == b
 }
 
 // A gap that lacks, if one does, and how much.
-#[derive(Clone, Copy)]
+#[derive(Clone, Copy, Debug, PartialEq)]
 struct Lead {
-    gap: Found,
+    gap: Option<GapNumber>,
     lack: f64,
 }
 
 // Gap e if it lacks more than the lead, else the lead. A gap of no kind is passed over.
-fn wider(
-    e: GapNumber,
-    lead: Lead,
-    left: &GapIndices,
-    right: &GapIndices,
-    distance: &GapInts,
-    kind: &GapBytes,
-    links: &Links,
-    spots: &Spots,
-) -> Lead
+fn wider(e: GapNumber, lead: Lead, p: &Problem, links: &Links, spots: &Spots) -> Lead
     requires { e.0 < gaps_most }
 {
-    let k = e.0;
-    let from = place_of(end_of(e, left), links, spots);
-    let lack = from + distance_of(e, distance) - place_of(end_of(e, right), links, spots);
-    if lead.lack < lack && kind[k] <= EXACTLY {
-        return Lead {
-            gap: Found::Gap(e),
-            lack: lack,
-        };
+    let from = spots.place_of(Label(p.left[e.0]), links);
+    let lack = from + double(p.distance[e.0]) - spots.place_of(Label(p.right[e.0]), links);
+    if lead.lack < lack && p.kind[e.0] <= EXACTLY {
+        return Lead { gap: Some(e), lack };
     }
     lead
 }
 
-// Where a circle ends whose end was taken out: at the last gap that stays, if one does.
-fn end_after(stays: usize, end: usize) -> u8
-    requires { stays < bytes_most }
+// Takes gap e out of the circle of block b. The gap before it stays, and the circle ends there if it ended with gap e. No gap is left
+// where that is gap e itself.
+fn take_out(e: GapNumber, stays: MaybeGap, b: Block, links: &mut Links)
+    requires { e.0 < gaps_most }
 {
-    if stays == end {
-        return NO_GAP;
-    }
-    narrow(stays)
-}
-
-// Takes gap e out of the circle of block b. The gap before it stays, and the circle ends there if it ended with gap e.
-fn take_out(e: GapNumber, stays: GapNumber, b: Block, links: &mut Links)
-    requires { (e.0 < gaps_most) × (stays.0 < bytes_most) }
-{
-    let k = e.0;
-    let s = stays.0;
+    let out = MaybeGap::of(e);
     let i = entry(b);
-    links[CIRCLE + s] = links[CIRCLE + k];
-    if link(END + i, links) == k {
-        links[END + i] = end_after(s, k);
+    links.circle[usize::from(stays.0)] = links.after(out);
+    if links.end[i] == out {
+        links.end[i] = if stays == out { MaybeGap::NONE } else { stays };
     }
 }
 
 // The gap into the block of label x from another one that lacks most. Gaps within the block are taken out of its circle on the way.
-pub fn widest(
-    x: Label,
-    left: &GapIndices,
-    right: &GapIndices,
-    distance: &GapInts,
-    kind: &GapBytes,
-    links: &mut Links,
-    spots: &Spots,
-) -> Found
+pub fn widest(x: Label, p: &Problem, links: &mut Links, spots: &Spots) -> Option<GapNumber>
     ensures { Guessed links.new × Guessed result }
 {
-    let b = block_of(x, links);
-    let last = link(END + entry(b), links);
-    if GAPS <= last {
-        return Found::Nothing;
+    let b = links.block_of(x);
+    let last = links.end[entry(b)];
+    if !last.is_gap() {
+        return None;
     }
     let mut lead = Lead {
-        gap: Found::Nothing,
+        gap: None,
         lack: TOLERANCE,
     };
     let mut stays = last;
-    let mut turns: usize = 0;
-    while turns < GAPS {
-        let e = link(CIRCLE + stays, links);
-        if GAPS <= e {
-            return lead.gap;
+    for _ in 0..GAPS {
+        let at = links.after(stays);
+        if !at.is_gap() {
+            break;
         }
-        if is_from(GapNumber(e), b, left, links) {
-            take_out(GapNumber(e), GapNumber(stays), b, links);
+        let e = at.number();
+        if is_from(e, b, p, links) {
+            take_out(e, stays, b, links);
         } else {
-            lead = wider(
-                GapNumber(e),
-                lead,
-                left,
-                right,
-                distance,
-                kind,
-                links,
-                spots,
-            );
-            stays = e;
+            lead = wider(e, lead, p, links, spots);
+            stays = at;
         }
-        if e == last {
-            return lead.gap;
+        if at == last {
+            break;
         }
-        turns += 1;
     }
     lead.gap
 }

@@ -1,13 +1,11 @@
--- Room in the work arrays of the first guess.
-use Rattle.std.specs.Prelude.{ℕ}
+-- Room in the work arrays of the first guess, and gaps that stand in it.
+use Rattle.std.specs.Prelude.{ℕ, Bool, ltb}
+use Rattle.ground.specs.Limits.{gaps_most}
 
--- for each label in a section
+-- for each label in an array
 abbrev pub room : ℕ
 room = 64
 
--- in all sections of bytes, and in all sections of doubles
-abbrev pub links_most : ℕ
-links_most = 704
-
-abbrev pub spots_most : ℕ
-spots_most = 192
+-- whether a byte is the number of one of the gaps that a sheet may have
+abbrev pub is_gap : ℕ → Bool
+is_gap byte = ltb byte gaps_most

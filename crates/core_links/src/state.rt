@@ -1,141 +1,144 @@
-// What is known of the labels, blocks and gaps while blocks are merged, in sections of two arrays: a call that lends many arrays to
-// be changed takes long to prove. Entries are read by calls for the same reason. A block has the number of one of its labels.
-ghost use Rattle.std.specs.Prelude.{◌<◌};
+// What is known of the labels, blocks and gaps while blocks are merged. A block has the number of one of its labels. Numbers are bytes:
+// all that is kept is cleared for each guess.
+ghost use Rattle.std.specs.Prelude.{◌≡◌, ◌<◌};
 ghost use Rattle.core_guess.specs.Guess.{Guessed};
-ghost use Rattle.core_links.specs.Room.{links_most, room, spots_most};
-ghost use Rattle.ground.specs.Limits.{bytes_most, gaps_most};
+ghost use Rattle.core_links.specs.Room.{is_gap, room};
+ghost use Rattle.ground.specs.Limits.{gaps_most};
 
-use core_guess::doubles::double;
-use core_guess::room::ROOM;
-use ground::bytes::wide;
-use ground::limits::{GapIndices, GapInts};
+use core_guess::room::{GAP_ROOM, NO_GAP, ROOM};
+use ground::limits::GAPS;
 use ground::{Block, GapNumber, Label};
 
-// Sections of bytes. The block of a label; the next label of its block, in a circle; and how many labels a block has.
-pub const BLOCK: usize = 0;
+// A gap or what stands for none, in one byte, where an Option takes sixteen. (A walk that asked for an Option at each gap was slower too.)
+#[derive(Clone, Copy, Debug, PartialEq, Eq)]
+pub struct MaybeGap(pub u8);
 
-pub const NEXT: usize = 64;
+impl MaybeGap {
+    pub const NONE: MaybeGap = MaybeGap(NO_GAP);
 
-pub const SIZE: usize = 128;
+    // In the search for an order, in place of a gap to look at: the label is new, or done.
+    pub const NEW: MaybeGap = MaybeGap(254);
 
-// A gap into each block, where the walk round its circle ends; NO_GAP where there is none.
-pub const END: usize = 192;
+    pub const DONE: MaybeGap = MaybeGap(253);
 
-// Of the search for an order: the gap into a label to look at next; the open labels, each found from the one before; and the labels
-// that are done, in the order asked for.
-pub const LOOK: usize = 256;
+    // A gap.
+    pub fn of(e: GapNumber) -> MaybeGap
+        requires { e.0 < gaps_most }
+        ensures { result.0 ≡ e.0 }
+    {
+        MaybeGap(e.0 as u8)
+    }
 
-// In place of a gap to look at: none is left; the label is new; it is done.
-pub const NONE: usize = 255;
+    // Whether it is a gap.
+    pub fn is_gap(self) -> bool
+        ensures { result ≡ is_gap self.0 }
+    {
+        usize::from(self.0) < GAPS
+    }
 
-pub const IS_NEW: usize = 254;
-
-pub const IS_DONE: usize = 253;
-
-pub const OPEN: usize = 320;
-
-pub const DONE: usize = 384;
-
-// The next gap in its circle, with room for as many as a byte tells apart.
-pub const CIRCLE: usize = 448;
-
-pub const LINKS: usize = 704;
-
-pub type Links = [u8; LINKS];
-
-// Sections of doubles: how far a label stands from the place of its block; the place of a block; and its weight.
-pub const OFFSET: usize = 0;
-
-pub const PLACE: usize = 64;
-
-pub const WEIGHT: usize = 128;
-
-pub const SPOTS: usize = 192;
-
-pub type Spots = [f64; SPOTS];
-
-// A gap that was looked for, or none.
-#[derive(Clone, Copy)]
-pub enum Found {
-    Nothing,
-    Gap(GapNumber),
+    // The number of the gap that it is.
+    pub fn number(self) -> GapNumber
+        ensures { result.0 ≡ self.0 }
+    {
+        GapNumber(usize::from(self.0))
+    }
 }
 
-// An entry of a section of bytes.
-pub fn link(at: usize, links: &Links) -> usize
-    requires { at < links_most }
-    ensures { result < bytes_most }
-{
-    wide(links[at])
+// The search for an order knows no places, and the search for the gap that lacks most changes none: so these are two.
+#[derive(Drop)]
+pub struct Links {
+    // The block of a label; the next label of its block, in a circle; and how many labels a block has.
+    pub block: [Block; ROOM],
+    pub next: [u8; ROOM],
+    pub size: [u8; ROOM],
+    // A gap into each block, where the walk round its circle ends.
+    pub end: [MaybeGap; ROOM],
+    // Of the search for an order: the gap into a label to look at next; the open labels, each found from the one before; and the labels
+    // that are done, in the order asked for.
+    pub look: [MaybeGap; ROOM],
+    pub opened: [u8; ROOM],
+    pub done: [u8; ROOM],
+    // The next gap in its circle, with room for as many as a byte tells apart.
+    pub circle: [MaybeGap; GAP_ROOM],
 }
 
-// Where a block stands in a section.
+#[derive(Drop)]
+pub struct Spots {
+    // How far a label stands from the place of its block; the place of a block; and its weight.
+    pub offset: [f64; ROOM],
+    pub place: [f64; ROOM],
+    pub weight: [f64; ROOM],
+}
+
+// Where a block stands in an array.
 pub fn entry(b: Block) -> usize
     ensures { result < room }
 {
-    wide(b.0) % ROOM
+    usize::from(b.0) % ROOM
 }
 
-// The block of a label.
-pub fn block_of(x: Label, links: &Links) -> Block
-    ensures { Guessed result }
-{
-    let i = x.0 % ROOM;
-    Block(links[BLOCK + i])
+impl Links {
+    // Nothing is known.
+    pub fn new() -> Links
+        ensures { Guessed result }
+    {
+        Links {
+            block: [Block(NO_GAP); ROOM],
+            next: [NO_GAP; ROOM],
+            size: [NO_GAP; ROOM],
+            end: [MaybeGap::NONE; ROOM],
+            look: [MaybeGap::NONE; ROOM],
+            opened: [NO_GAP; ROOM],
+            done: [NO_GAP; ROOM],
+            circle: [MaybeGap::NONE; GAP_ROOM],
+        }
+    }
+
+    // The block of a label.
+    pub fn block_of(&self, x: Label) -> Block
+        ensures { Guessed result }
+    {
+        self.block[x.0 % ROOM]
+    }
+
+    // The gap after which the walk round the gaps into a label's block begins.
+    pub fn end_of(&self, x: Label) -> MaybeGap
+        ensures { Guessed result }
+    {
+        self.end[x.0 % ROOM]
+    }
+
+    // The next gap in a circle. (After none comes none: its entry is never written.)
+    pub fn after(&self, e: MaybeGap) -> MaybeGap
+        ensures { Guessed result }
+    {
+        self.circle[usize::from(e.0)]
+    }
 }
 
-// How many labels a block has.
-pub fn size_of(b: Block, links: &Links) -> usize
-    ensures { result < bytes_most }
-{
-    link(SIZE + entry(b), links)
-}
+impl Spots {
+    // Nothing is known.
+    pub fn new() -> Spots
+        ensures { Guessed result }
+    {
+        Spots {
+            offset: [0.0; ROOM],
+            place: [0.0; ROOM],
+            weight: [0.0; ROOM],
+        }
+    }
 
-// A double of a block or a label, from its section.
-pub fn spot(at: usize, spots: &Spots) -> f64
-    requires { at < spots_most }
-    ensures { Guessed result }
-{
-    spots[at]
-}
+    // How far a label stands from the place of its block.
+    pub fn offset_of(&self, x: Label) -> f64
+        ensures { Guessed result }
+    {
+        self.offset[x.0 % ROOM]
+    }
 
-// Keeps a double.
-pub fn set_spot(at: usize, value: f64, spots: &mut Spots)
-    requires { at < spots_most }
-    ensures { Guessed spots.new }
-{
-    spots[at] = value;
-}
-
-// How far a label stands from the place of its block.
-pub fn offset_of(x: Label, spots: &Spots) -> f64
-    ensures { Guessed result }
-{
-    spot(OFFSET + x.0 % ROOM, spots)
-}
-
-// Where a label stands.
-pub fn place_of(x: Label, links: &Links, spots: &Spots) -> f64
-    ensures { Guessed result }
-{
-    let b = block_of(x, links);
-    spot(PLACE + entry(b), spots) + offset_of(x, spots)
-}
-
-// The label at an end of gap e.
-pub fn end_of(e: GapNumber, ends: &GapIndices) -> Label
-    requires { e.0 < gaps_most }
-    ensures { Guessed result }
-{
-    let k = e.0;
-    Label(ends[k])
-}
-
-// The distance of gap e.
-pub fn distance_of(e: GapNumber, distance: &GapInts) -> f64
-    requires { e.0 < gaps_most }
-    ensures { Guessed result }
-{
-    let k = e.0;
-    double(distance[k])
+    // Where a label stands.
+    pub fn place_of(&self, x: Label, links: &Links) -> f64
+        ensures { Guessed result }
+    {
+        self.place[entry(links.block_of(x))] + self.offset_of(x)
+    }
 }

@@ -26,14 +26,17 @@ use Rattle.least_move.specs.Multipliers.{Multipliers, Conditions, Lawful, counte
 use Rattle.least_move.specs.Marks.{Step, start, finish, Leads, Marks, MarkedRing}
 use Rattle.least_move.specs.Ring.{Ring, Passable, distance_of, distance_sum, OnceLeft, steps_of, IsRing}
 use Rattle.ground.specs.Entries.{nat, int, over, Each}
-use Rattle.core_forest.specs.Problem.{Problem, Limits, marks_of, sheet_from}
+use Rattle.ground.specs.declared.problem.Problem.{Problem}
+use Rattle.core_forest.specs.Problem.{Limits, marks_of, sheet_from}
+use Rattle.core_forest.specs.declared.state.State.{State}
 use Rattle.core_balance.specs.Places.{DenMost}
 use Rattle.core_balance.proofs.Placing.{den_limit}
+use Rattle.core_ring.specs.declared.Ring.{Ring as FoundRing}
 use Rattle.core_settle.specs.Settle.{RingStands}
 use Rattle.core_project.specs.Core.{Asked, CorePlaced}
-use Rattle.core_project.specs.Project.{Copied, FrontWritten, FractionsWritten, Buffers, Ready, Solved, RingGiven, problem_of}
+use Rattle.core_project.specs.Project.{FrontWritten, FractionsWritten, Buffers, Ready, Held, Solved, RingGiven}
 use Rattle.ground.proofs.Each.{each_map}
-use Rattle.core_project.proofs.Passes.{copied_by}
+use Rattle.core_project.proofs.Passes.{copied_out}
 
 -- ---- plain facts
 
@@ -254,15 +257,15 @@ module _ {p : Problem} (lim : Limits p) where
   ring_most [] r = absurd r
   ring_most (t ∷ ts) r = pigeonhole (sheet_from p) p.labels (t ∷ ts) r.once (each_map (λ u q. start_in u q.0) (t ∷ ts) r.passable)
 
-  pub ring_room : (size : ℕ) (found backs : List ℕ) → RingStands p size found backs → length found ≡ 48 → length backs ≡ 48 → size ≤ p.labels
-  ring_room size found backs r lf lb =
-      omega (arith, ring_most (steps_of (take size found) (take size backs)) r.2, steps_length (take size found) (take size backs) (front_found ∙ sym front_backs), front_found)
+  pub ring_room : {size : ℕ} {found : FoundRing} → RingStands p size found → size ≤ p.labels
+  ring_room {size} {found} r =
+      omega (arith, ring_most (steps_of (take size found.gaps) (take size found.back)) r.ring, steps_length (take size found.gaps) (take size found.back) (gaps ∙ sym backs), gaps)
     where
-      front_found : length (take size found) ≡ size
-      front_found = length-take-le size found (omega (arith, r.1))
+      gaps : length (take size found.gaps) ≡ size
+      gaps = length-take-le size found.gaps r.gaps_room
 
-      front_backs : length (take size backs) ≡ size
-      front_backs = length-take-le size backs (omega (arith, r.1))
+      backs : length (take size found.back) ≡ size
+      backs = length-take-le size found.back r.back_room
 
 -- ---- bounds of a fraction pass to its lowest terms
 module _ {q r : Fraction} (h : Reduced q r) (least : pos 1 ≤ℤ q.den) where
@@ -280,137 +283,128 @@ module _ {q r : Fraction} (h : Reduced q r) (least : pos 1 ≤ℤ q.den) where
 
 -- ---- the work arrays
 
-pub record CopiedAll (wanted weight : List ℤ) (left right : List ℕ) (distance : List ℤ) (kind : List ℕ) (wants weights : List ℤ) (lefts rights : List ℕ) (distances : List ℤ) (kinds : List ℕ) : Type 0 where
-  pub wants_in : Copied (length wanted) wanted wants (pos 0)
-  pub weights_in : Copied (length weight) weight weights (pos 0)
-  pub lefts_in : Copied (length left) left lefts 0
-  pub rights_in : Copied (length right) right rights 0
-  pub distances_in : Copied (length distance) distance distances (pos 0)
-  pub kinds_in : Copied (length kind) kind kinds 0
+module _ {p work : Problem} (lim : Limits p) (held : Held p work) where
+  label_in : {i : ℕ} → i < work.labels → i < p.labels
+  label_in h = omega (arith, held.labels, h)
 
--- what copies of the lent lists to the front of the work arrays leave
-pub copied_all :
-    {wanted weight : List ℤ} {left right : List ℕ} {distance : List ℤ} {kind : List ℕ} {b : Buffers}
-    {wants weights : List ℤ} {lefts rights : List ℕ} {distances : List ℤ} {kinds : List ℕ}
-    (wants₀ weights₀ : List ℤ) (lefts₀ rights₀ : List ℕ) (distances₀ : List ℤ) (kinds₀ : List ℕ) →
-    Ready wanted weight left right distance kind b →
-    wants ≡ over (length wanted) wanted wants₀ →
-    weights ≡ over (length wanted) weight weights₀ →
-    lefts ≡ over (length left) left lefts₀ →
-    rights ≡ over (length left) right rights₀ →
-    distances ≡ over (length left) distance distances₀ →
-    kinds ≡ over (length left) kind kinds₀ →
-    CopiedAll wanted weight left right distance kind wants weights lefts rights distances kinds
-copied_all {wanted} {weight} {left} {right} {distance} {kind} wants₀ weights₀ lefts₀ rights₀ distances₀ kinds₀ ready a b c d e f =
-    record {
-      wants_in = copied_by (length wanted) wanted wants₀ (pos 0) a (omega arith) refl;
-      weights_in = copied_by (length wanted) weight weights₀ (pos 0) b (omega (arith, ready.weights)) ready.weights;
-      lefts_in = copied_by (length left) left lefts₀ 0 c (omega arith) refl;
-      rights_in = copied_by (length left) right rights₀ 0 d (omega (arith, ready.rights)) ready.rights;
-      distances_in = copied_by (length left) distance distances₀ (pos 0) e (omega (arith, ready.distances)) ready.distances;
-      kinds_in = copied_by (length left) kind kinds₀ 0 f (omega (arith, ready.kinds)) ready.kinds;
-    }
+  gap_in : {e : ℕ} → e < work.gaps → e < p.gaps
+  gap_in h = omega (arith, held.gaps, h)
 
--- the problem in the work arrays
-abbrev pub work_of : (wanted : List ℤ) (left : List ℕ) (wants weights : List ℤ) (lefts rights : List ℕ) (distances : List ℤ) (kinds : List ℕ) → Problem
-work_of wanted left wants weights lefts rights distances kinds =
-    record { labels = length wanted; gaps = length left; left = lefts; right = rights; distance = distances; kind = kinds; wanted = wants; weight = weights }
-
-module _
-    {wanted weight : List ℤ} {left right : List ℕ} {distance : List ℤ} {kind : List ℕ} {b : Buffers}
-    {wants weights : List ℤ} {lefts rights : List ℕ} {distances : List ℤ} {kinds : List ℕ}
-    (ready : Ready wanted weight left right distance kind b)
-    (copied : CopiedAll wanted weight left right distance kind wants weights lefts rights distances kinds) where
-  abbrev given : Problem
-  given = problem_of wanted weight left right distance kind
-
-  abbrev work : Problem
-  work = work_of wanted left wants weights lefts rights distances kinds
-
-  weight_at : (i : ℕ) → i < length wanted → int weights i ≡ int weight i
-  weight_at i h = copied.weights_in i (omega (arith, ready.weights))
-
-  right_at : (e : ℕ) → e < length left → nat rights e ≡ nat right e
-  right_at e h = copied.rights_in e (omega (arith, ready.rights))
-
-  distance_at : (e : ℕ) → e < length left → int distances e ≡ int distance e
-  distance_at e h = copied.distances_in e (omega (arith, ready.distances))
-
-  kind_at : (e : ℕ) → e < length left → nat kinds e ≡ nat kind e
-  kind_at e h = copied.kinds_in e (omega (arith, ready.kinds))
-
-  pub work_agrees : Agree (sheet_from work) (sheet_from given)
+  pub work_agrees : Agree (sheet_from work) (sheet_from p)
   work_agrees =
       record {
-        labels = refl;
-        gaps = refl;
-        wanted = λ i h. copied.wants_in i.0 h;
-        weight = λ i h. weight_at i.0 h;
-        gap = λ e h j. record { left = label (copied.lefts_in e.0 h j); right = label (right_at e.0 h j); distance = distance_at e.0 h j; kind = kind_of (kind_at e.0 h j) };
+        labels = held.labels;
+        gaps = held.gaps;
+        wanted = λ i h. held.wants i.0 (label_in h);
+        weight = λ i h. held.weights i.0 (label_in h);
+        gap = λ e h j.
+            let l = gap_in h in
+            record { left = label (held.lefts e.0 l j); right = label (held.rights e.0 l j); distance = held.distances e.0 l j; kind = kind_of (held.kinds e.0 l j) };
       }
 
   pub limits_work : Limits work
   limits_work =
       record {
-        labels_bound = ready.limits.labels_bound;
-        gaps_bound = ready.limits.gaps_bound;
-        left_in = λ e h. subst (λ x. x < length wanted) (sym (copied.lefts_in e h)) (ready.limits.left_in e h);
-        right_in = λ e h. subst (λ x. x < length wanted) (sym (right_at e h)) (ready.limits.right_in e h);
-        distance_bound = λ e h. subst (λ z. nat_abs z ≤ 20000) (sym (distance_at e h)) (ready.limits.distance_bound e h);
-        wanted_bound = λ i h. subst (λ z. nat_abs z ≤ 600000) (sym (copied.wants_in i h)) (ready.limits.wanted_bound i h);
-        weight_low = λ i h. subst (λ z. pos 1 ≤ℤ z) (sym (weight_at i h)) (ready.limits.weight_low i h);
-        weight_high = λ i h. subst (λ z. z ≤ℤ pos 3600) (sym (weight_at i h)) (ready.limits.weight_high i h);
+        labels_bound = omega (arith, held.labels, lim.labels_bound);
+        gaps_bound = omega (arith, held.gaps, lim.gaps_bound);
+        left_in = λ e h. omega (arith, held.lefts e (gap_in h), lim.left_in e (gap_in h), held.labels);
+        right_in = λ e h. omega (arith, held.rights e (gap_in h), lim.right_in e (gap_in h), held.labels);
+        distance_bound = λ e h. subst (λ z. nat_abs z ≤ 20000) (sym (held.distances e (gap_in h))) (lim.distance_bound e (gap_in h));
+        wanted_bound = λ i h. subst (λ z. nat_abs z ≤ 600000) (sym (held.wants i (label_in h))) (lim.wanted_bound i (label_in h));
+        weight_low = λ i h. subst (λ z. pos 1 ≤ℤ z) (sym (held.weights i (label_in h))) (lim.weight_low i (label_in h));
+        weight_high = λ i h. subst (λ z. z ≤ℤ pos 3600) (sym (held.weights i (label_in h))) (lim.weight_high i (label_in h));
       }
 
   -- the bound of a denominator passes to the lent weights and to lowest terms
-  den_given : {q r : Fraction} → Reduced q r → pos 1 ≤ℤ q.den → DenMost work q.den → DenMost given r.den
-  den_given h least most B light = omega (arith, reduced_den h least, most B (λ j l. subst (λ z. nat_abs z ≤ B) (sym (weight_at j l)) (light j l)))
+  den_given : {q r : Fraction} → Reduced q r → pos 1 ≤ℤ q.den → DenMost work q.den → DenMost p r.den
+  den_given h least most B light =
+      omega (arith, reduced_den h least, most B (λ j l. subst (λ z. nat_abs z ≤ B) (sym (held.weights j (label_in l))) (light j (label_in l))))
 
-  pub solved : {mark : List ℕ} {num den load over pn pd mn md : List ℤ} {carried' : List ℕ} → CorePlaced work mark num den load over → FractionsWritten (length wanted) num den b.place_num b.place_den pn pd → FractionsWritten (length left) load over b.mult_num b.mult_den mn md → FrontWritten (length left) mark b.carried carried' 0 → Solved given b (record { place_num = pn; place_den = pd; mult_num = mn; mult_den = md; carried = carried'; ring = b.ring; back = b.back })
-  solved {mark} {num} {den} {load} {over} {pn} {pd} {mn} {md} {carried'} core places mults marks =
+module _ {p work : Problem} {b : Buffers} (ready : Ready p b) (held : Held p work) where
+  abbrev lim : Limits p
+  lim = ready.listed.limits
+
+  pub solved :
+      {s : State} {pn pd mn md : List ℤ} {carried' : List ℕ} →
+      CorePlaced work s →
+      FractionsWritten work.labels s.num s.den b.place_num b.place_den pn pd →
+      FractionsWritten work.gaps s.load s.over b.mult_num b.mult_den mn md →
+      carried' ≡ over work.gaps s.mark b.carried →
+      work.gaps ≤ length s.mark →
+      Solved p b (record { place_num = pn; place_den = pd; mult_num = mn; mult_den = md; carried = carried'; ring = b.ring; back = b.back })
+  solved {s} {pn} {pd} {mn} {md} {carried'} core places mults carried-is long =
       record {
-        place_nums = places.uppers;
-        place_dens = places.lowers;
-        mult_nums = mults.uppers;
-        mult_dens = mults.lowers;
-        carried = marks.filled;
+        place_nums = rw (sym held.labels) places.uppers;
+        place_dens = rw (sym held.labels) places.lowers;
+        mult_nums = rw (sym held.gaps) mults.uppers;
+        mult_dens = rw (sym held.gaps) mults.lowers;
+        carried = rw (sym held.gaps) marks.filled;
         ring = refl;
         back = refl;
-        conditions = conditions_agree work_agrees (core.conditions _ _ (record { places = places.reduced; multipliers = mults.reduced }));
-        marks = marks_agree work_agrees same_marks (core.marks _ _ (record { places = places.reduced; multipliers = mults.reduced }));
-        bytes = λ e h. subst (λ x. x ≤ 1) (sym (marks.written e h)) (core.bytes e h);
-        places_lowest = λ i h. (places.reduced i.0 h).lowest;
-        multipliers_lowest = λ e h. (mults.reduced e.0 h).lowest;
-        den_most = λ i h. den_given (places.reduced i h) (core.den_least i h) (core.den_most i h);
-        num_most = λ i h B most. reduced_num (places.reduced i h) (core.den_least i h) (B + 940000) (core.num_most i h B (λ j l. subst (λ z. nat_abs z ≤ B) (sym (copied.wants_in j l)) (most j l)));
-        asked = asked_agree work_agrees same_marks core.asked;
+        conditions = conditions_agree agrees (core.conditions _ _ (record { places = places.reduced; multipliers = mults.reduced }));
+        marks = marks_agree agrees same_marks (core.marks _ _ (record { places = places.reduced; multipliers = mults.reduced }));
+        bytes = λ e h. subst (λ x. x ≤ 1) (sym (marks.written e (gap_of h))) (core.bytes e (gap_of h));
+        places_lowest = λ i h. (places.reduced i.0 (label_of h)).lowest;
+        multipliers_lowest = λ e h. (mults.reduced e.0 (gap_of h)).lowest;
+        den_most = λ i h. den_given lim held (places.reduced i (label_of h)) (core.den_least i (label_of h)) (core.den_most i (label_of h));
+        num_most = λ i h B most.
+            reduced_num (places.reduced i (label_of h)) (core.den_least i (label_of h)) (B + 940000)
+            (core.num_most i (label_of h) B (λ j l. let in_p : j < p.labels = omega (arith, held.labels, l) in subst (λ z. nat_abs z ≤ B) (sym (held.wants j in_p)) (most j in_p)));
+        asked = asked_agree agrees same_marks core.asked;
         mult_den_most = mult_den;
-        mult_den_size = λ e h. den_limit ready.limits (int md e) (mult_den e h);
+        mult_den_size = λ e h. den_limit lim (int md e) (mult_den e h);
       }
     where
-      mult_den : (e : ℕ) → e < length left → DenMost given (int md e)
-      mult_den e h = den_given (mults.reduced e h) (core.over_least e h) (core.over_most e h)
+      label_of : {i : ℕ} → i < p.labels → i < work.labels
+      label_of h = omega (arith, held.labels, h)
 
-      same_marks : (e : GapNumber) → e.0 < length left → marks_of mark e.0 ≡ marks_of carried' e.0
+      gap_of : {e : ℕ} → e < p.gaps → e < work.gaps
+      gap_of h = omega (arith, held.gaps, h)
+
+      marks : FrontWritten work.gaps s.mark b.carried carried' 0
+      marks = copied_out work.gaps s.mark b.carried 0 carried-is long (omega (arith, held.gaps, ready.carrieds))
+
+      agrees : Agree (sheet_from work) (sheet_from p)
+      agrees = work_agrees lim held
+
+      mult_den : (e : ℕ) → e < p.gaps → DenMost p (int md e)
+      mult_den e h = den_given lim held (mults.reduced e (gap_of h)) (core.over_least e (gap_of h)) (core.over_most e (gap_of h))
+
+      same_marks : (e : GapNumber) → e.0 < work.gaps → marks_of s.mark e.0 ≡ marks_of carried' e.0
       same_marks e h = ap (λ x. eqb x 1) (sym (marks.written e.0 h))
 
-  pub ring_given : {size : ℕ} {found backs ring' back' : List ℕ} → RingStands work size found backs → FrontWritten size found b.ring ring' 0 → FrontWritten size backs b.back back' 0 → length found ≡ 48 → length backs ≡ 48 → RingGiven given b (record { place_num = b.place_num; place_den = b.place_den; mult_num = b.mult_num; mult_den = b.mult_den; carried = b.carried; ring = ring'; back = back' }) size
-  ring_given {size} {found} {backs} {ring'} {back'} r rings-in backs-in lf lb =
+  -- a ring fits into the buffers
+  pub ring_fits : {size : ℕ} {found : FoundRing} → RingStands work size found → size ≤ p.labels
+  ring_fits r = omega (arith, ring_room (limits_work lim held) r, held.labels)
+
+  pub ring_given :
+      {size : ℕ} {found : FoundRing} {ring' back' : List ℕ} →
+      RingStands work size found →
+      ring' ≡ over size found.gaps b.ring →
+      back' ≡ over size found.back b.back →
+      RingGiven p b (record { place_num = b.place_num; place_den = b.place_den; mult_num = b.mult_num; mult_den = b.mult_den; carried = b.carried; ring = ring'; back = back' }) size
+  ring_given {size} {found} {ring'} {back'} r ring-is back-is =
       record {
-        some = r.0;
+        some = r.some;
         most = most;
-        ring = is_ring_agree work_agrees (steps_of (take size ring') (take size back')) (subst (IsRing (sheet_from work)) (sym (ap₂ steps_of front_ring front_back)) r.2);
-        rings = rings-in.filled;
-        backs = backs-in.filled;
+        ring = is_ring_agree (work_agrees lim held) (steps_of (take size ring') (take size back')) (subst (IsRing (sheet_from work)) (sym (ap₂ steps_of front_ring front_back)) r.ring);
+        rings = gaps.filled;
+        backs = backs.filled;
         stays = refl;
-        back_bytes = λ k h. subst (λ x. x ≤ 1) (sym (backs-in.written k h)) (r.3 k h);
+        back_bytes = λ k h. subst (λ x. x ≤ 1) (sym (backs.written k h)) (r.bytes k h);
       }
     where
-      most : size ≤ length wanted
-      most = ring_room limits_work size found backs r lf lb
+      most : size ≤ p.labels
+      most = ring_fits r
 
-      front_ring : take size ring' ≡ take size found
-      front_ring = take_agree size ring' found 0 (omega (arith, most, ready.ring_room.0, rings-in.filled.size)) (omega (arith, r.1)) rings-in.written
+      gaps : FrontWritten size found.gaps b.ring ring' 0
+      gaps = copied_out size found.gaps b.ring 0 ring-is r.gaps_room (omega (arith, most, ready.ring_room.0))
 
-      front_back : take size back' ≡ take size backs
-      front_back = take_agree size back' backs 0 (omega (arith, most, ready.ring_room.1, backs-in.filled.size)) (omega (arith, r.1)) backs-in.written
+      backs : FrontWritten size found.back b.back back' 0
+      backs = copied_out size found.back b.back 0 back-is r.back_room (omega (arith, most, ready.ring_room.1))
+
+      front_ring : take size ring' ≡ take size found.gaps
+      front_ring = take_agree size ring' found.gaps 0 (omega (arith, most, ready.ring_room.0, gaps.filled.size)) r.gaps_room gaps.written
+
+      front_back : take size back' ≡ take size found.back
+      front_back = take_agree size back' found.back 0 (omega (arith, most, ready.ring_room.1, backs.filled.size)) r.back_room backs.written

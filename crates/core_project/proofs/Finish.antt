@@ -2,7 +2,7 @@
 -- and the arrays are a placement with multipliers that satisfy the conditions.
 use mathlib.Core.Path.{◌≡◌, refl, sym, ◌∙◌, ap, ap₂}
 use mathlib.Core.Bool.{Bool}
-use mathlib.Core.List.{List, [], ◌∷◌}
+use mathlib.Core.List.{[], ◌∷◌}
 use Prim.Native.Nat.{ℕ, ◌<◌}
 use lib.IntN.{ℤ, pos, neg_ℤ, ◌+ℤ◌, ◌-ℤ◌, ◌*ℤ◌}
 use lib.Signed.{◌≤ℤ◌, ◌<ℤ◌}
@@ -24,14 +24,16 @@ use Rattle.least_move.proofs.Flow.{flow_lin}
 use Rattle.least_move.proofs.Sides.{places_agree}
 use Rattle.least_move.proofs.Unscaled.{sound_proper, conditions_of, marks_of_lem, meets_of_numbers, reduced_scale}
 use Rattle.ground.specs.Entries.{nat, int}
-use Rattle.core_forest.specs.Problem.{Problem, Limits, marks_of, numbers_of, with_kind, sheet_from}
+use Rattle.ground.specs.declared.problem.Problem.{Problem}
+use Rattle.core_forest.specs.Problem.{Limits, marks_of, numbers_of, plain, sheet_from}
+use Rattle.core_forest.specs.declared.state.State.{State}
 use Rattle.core_worst_gap.specs.WorstGap.{slack_at}
 use Rattle.core_worst_gap.proofs.WorstGap.{slack_least, slack_none}
-use Rattle.core_standing.specs.Standing.{Standing, AllHold}
-use Rattle.core_settle.specs.declared.Found.{Found}
-use Rattle.core_settle.specs.declared.Found.TheVariants.{Placed, Ring}
-use Rattle.core_settle.specs.Settle.{SettleSays}
-use Rattle.core_balance.specs.Balance.{Balanced}
+use Rattle.std.specs.Prelude.{Ok, Err}
+use Rattle.core_ring.specs.declared.Ring.{Ring}
+use Rattle.core_standing.specs.Standing.{StandingState, AllHold}
+use Rattle.core_settle.specs.Settle.{Found, SettleSays}
+use Rattle.core_balance.specs.Balance.{BalancedState}
 use Rattle.core_balance.proofs.Balance.{above_of, other_scale, limits_sound}
 use Rattle.core_project.specs.Core.{Written, CorePlaced, CoreSays}
 
@@ -69,51 +71,56 @@ holds_least k slack h q = rw q at h
 holds_exactly : (k : Kind) (slack : Fraction) → HoldsWith k slack → k ≡ exactly → slack.num ≡ pos 0
 holds_exactly k slack h q = rw q at h
 
--- every gap is met at the scale of a settled state
-meets_settled : {p : Problem} {mark : List ℕ} {num den load over : List ℤ} → Limits p → (s : Standing p mark num den load over) → AllHold p num den → Meets-all (sheet_from p) s.settled.N s.settled.X
-meets_settled {p} {mark} {num} {den} lim s all e l =
-    let placed-above : (i : ℕ) → i < p.labels → pos 0 <ℤ int den i = λ i h. above_of (s.found i h).den_least in
-    meets_of_numbers (numbers_of p) s.settled.N s.settled.X (int num) (int den) (limits_sound lim) s.settled.above placed-above s.settled.places e l
-    (λ q. slack_least p.left p.right p.distance num den e (placed-above (nat p.left e) (lim.left_in e l)) (placed-above (nat p.right e) (lim.right_in e l)) (holds_least (kind_of (nat p.kind e)) (slack_at p.left p.right p.distance num den e) (all e l) q))
-    (λ q. slack_none p.left p.right p.distance num den e (placed-above (nat p.left e) (lim.left_in e l)) (placed-above (nat p.right e) (lim.right_in e l)) (holds_exactly (kind_of (nat p.kind e)) (slack_at p.left p.right p.distance num den e) (all e l) q))
+module _ {p : Problem} {t : State} (lim : Limits p) (s : StandingState p t) where
+  -- the balance's loads are the settled multipliers
+  settled_loads : (e : ℕ) → e < p.gaps → s.settled.Λ e *ℤ int t.over e ≡ s.settled.N *ℤ int t.load e
+  settled_loads e l =
+      let b : BalancedState (plain p) t = s.balanced in
+      other_scale s.settled.N b.N (s.settled.Λ e) (b.Λ e) (int t.load e) (int t.over e) b.above
+      (loads_agree (numbers_of p) (marks_of t.mark) s.settled.N b.N s.settled.X b.X s.settled.Λ b.Λ s.forest s.settled.state b.state
+      (places_agree (numbers_of p) (marks_of t.mark) s.settled.N b.N s.settled.X b.X s.settled.Λ b.Λ (limits_sound lim) s.settled.state b.state) e l)
+      (b.loads e l)
 
--- the balance's loads are the settled multipliers
-settled_loads : {p : Problem} {mark : List ℕ} {num den load over : List ℤ} → Limits p → (s : Standing p mark num den load over) → (e : ℕ) → e < p.gaps → s.settled.Λ e *ℤ int over e ≡ s.settled.N *ℤ int load e
-settled_loads {p} {mark} {num} {den} {load} {over} lim s e l =
-    let b : Balanced (with_kind p []) mark num den load over = s.balanced in
-    other_scale s.settled.N b.N (s.settled.Λ e) (b.Λ e) (int load e) (int over e) b.above
-    (loads_agree (numbers_of p) (marks_of mark) s.settled.N b.N s.settled.X b.X s.settled.Λ b.Λ s.forest s.settled.state b.state
-    (places_agree (numbers_of p) (marks_of mark) s.settled.N b.N s.settled.X b.X s.settled.Λ b.Λ (limits_sound lim) s.settled.state b.state) e l)
-    (b.loads e l)
+  module _ (all : AllHold p t.num t.den) where
+    -- every gap is met at the scale of a settled state
+    meets_settled : Meets-all (sheet_from p) s.settled.N s.settled.X
+    meets_settled e l =
+        let placed_above : (i : ℕ) → i < p.labels → pos 0 <ℤ int t.den i = λ i h. above_of (s.found i h).den_least in
+        let left_above = placed_above (nat p.left e) (lim.left_in e l) in
+        let right_above = placed_above (nat p.right e) (lim.right_in e l) in
+        let k = kind_of (nat p.kind e) in
+        let slack = slack_at p t.num t.den e in
+        meets_of_numbers (numbers_of p) s.settled.N s.settled.X (int t.num) (int t.den) (limits_sound lim) s.settled.above placed_above s.settled.places e l
+        (λ q. slack_least p t.num t.den e left_above right_above (holds_least k slack (all e l) q))
+        (λ q. slack_none p t.num t.den e left_above right_above (holds_exactly k slack (all e l) q))
 
-module _ (p : Problem) (mark : List ℕ) (num den load over : List ℤ) (lim : Limits p) (s : Standing p mark num den load over) (all : AllHold p num den) where
-  module _ (place : Placement) (multiplier : Multipliers) (wr : Written p num den load over place multiplier) where
-    placed : (i : Label) → i.0 < p.labels → IsFraction (place i) × AtScale s.settled.N (s.settled.X i.0) (place i)
-    placed i h = reduced_scale s.settled.N (s.settled.X i.0) (int num i.0) (int den i.0) (place i) (above_of (s.found i.0 h).den_least) (s.settled.places i.0 h) (wr.places i.0 h)
+    module _ (place : Placement) (multiplier : Multipliers) (wr : Written p t place multiplier) where
+      placed : (i : Label) → i.0 < p.labels → IsFraction (place i) × AtScale s.settled.N (s.settled.X i.0) (place i)
+      placed i h = reduced_scale s.settled.N (s.settled.X i.0) (int t.num i.0) (int t.den i.0) (place i) (above_of (s.found i.0 h).den_least) (s.settled.places i.0 h) (wr.places i.0 h)
 
-    loaded : (e : GapNumber) → e.0 < p.gaps → IsFraction (multiplier e) × AtScale s.settled.N (s.settled.Λ e.0) (multiplier e)
-    loaded e h = reduced_scale s.settled.N (s.settled.Λ e.0) (int load e.0) (int over e.0) (multiplier e) (above_of (s.balanced.part.over_least e.0 h)) (settled_loads lim s e.0 h) (wr.multipliers e.0 h)
+      loaded : (e : GapNumber) → e.0 < p.gaps → IsFraction (multiplier e) × AtScale s.settled.N (s.settled.Λ e.0) (multiplier e)
+      loaded e h = reduced_scale s.settled.N (s.settled.Λ e.0) (int t.load e.0) (int t.over e.0) (multiplier e) (above_of (s.balanced.part.over_least e.0 h)) (settled_loads e.0 h) (wr.multipliers e.0 h)
 
-    written_conditions : Conditions (sheet_from p) place multiplier
-    written_conditions = conditions_of (sheet_from p) (sound_proper (sheet_from p) (limits_sound lim)) (marks_of mark) s.forest s.settled.N s.settled.X s.settled.Λ s.settled.above s.settled.state s.settled.lawful (meets_settled lim s all) place multiplier placed loaded
+      written_conditions : Conditions (sheet_from p) place multiplier
+      written_conditions = conditions_of (sheet_from p) (sound_proper (sheet_from p) (limits_sound lim)) (marks_of t.mark) s.forest s.settled.N s.settled.X s.settled.Λ s.settled.above s.settled.state s.settled.lawful meets_settled place multiplier placed loaded
 
-    written_marks : Marks (sheet_from p) place multiplier (λ e. marks_of mark e.0)
-    written_marks = marks_of_lem (sheet_from p) (sound_proper (sheet_from p) (limits_sound lim)) (marks_of mark) s.forest s.settled.N s.settled.X s.settled.Λ s.settled.above s.settled.state s.settled.lawful (meets_settled lim s all) place multiplier placed loaded (λ e. marks_of mark e.0) (λ _ _. refl)
+      written_marks : Marks (sheet_from p) place multiplier (λ e. marks_of t.mark e.0)
+      written_marks = marks_of_lem (sheet_from p) (sound_proper (sheet_from p) (limits_sound lim)) (marks_of t.mark) s.forest s.settled.N s.settled.X s.settled.Λ s.settled.above s.settled.state s.settled.lawful meets_settled place multiplier placed loaded (λ e. marks_of t.mark e.0) (λ _ _. refl)
 
-  pub finish : CorePlaced p mark num den load over
-  finish = record {
-    bytes = s.bytes;
-    den_least = λ i h. (s.found i h).den_least;
-    over_least = s.balanced.part.over_least;
-    den_most = λ i h. (s.found i h).den_most;
-    num_most = λ i h. (s.found i h).num_most;
-    conditions = written_conditions;
-    marks = written_marks;
-    asked = λ e. s.settled.lawful.asked e.0;
-    over_most = s.balanced.part.over_most;
-  }
+    pub finish : CorePlaced p t
+    finish = record {
+      bytes = s.bytes;
+      den_least = λ i h. (s.found i h).den_least;
+      over_least = s.balanced.part.over_least;
+      den_most = λ i h. (s.found i h).den_most;
+      num_most = λ i h. (s.found i h).num_most;
+      conditions = written_conditions;
+      marks = written_marks;
+      asked = λ e. s.settled.lawful.asked e.0;
+      over_most = s.balanced.part.over_most;
+    }
 
 -- what settling says, at both outcomes
-pub core_says : (p : Problem) (r : Found) (mark : List ℕ) (num den load over : List ℤ) (ring back : List ℕ) → Limits p → SettleSays p r mark num den load over ring back → CoreSays p r mark num den load over ring back
-core_says p Placed mark num den load over ring back lim said = finish p mark num den load over lim said.0 said.1
-core_says p (Ring size) mark num den load over ring back lim said = said.0
+pub core_says : {p : Problem} (r : Found) (t : State) (ring : Ring) → Limits p → SettleSays p r t ring → CoreSays p r t ring
+core_says (Ok _) t ring lim said = finish lim said.0 said.1
+core_says (Err size) t ring lim said = said.0

@@ -1,4 +1,3 @@
 pub mod Passes
 pub mod Finish
 pub mod Agreeing
-pub mod Bounds

@@ -11,10 +11,9 @@ use lib.IntN.{ℤ, pos, *ℤ_comm, *ℤ-zero}
 use lib.Signed.{◌<ℤ◌}
 use Rattle.algebra.proofs.Whole.{parts_lt}
 use Rattle.exact.specs.declared.Fraction.{Fraction}
-use Rattle.exact.specs.Fraction.{Reduced}
-use Rattle.core_project.specs.Core.{fraction}
+use Rattle.exact.specs.Fraction.{Reduced, fraction_at}
 use Rattle.ground.specs.Entries.{over}
-use Rattle.ground.proofs.Copying.{filled_start, filled_turn, over_length}
+use Rattle.ground.proofs.Copying.{filled_turn, over_length}
 use Rattle.core_project.specs.Project.{Copied, FrontWritten, FractionsWritten}
 
 module _ {A : Type 0} where
@@ -27,10 +26,7 @@ module _ {A : Type 0} where
   copied_in n from to none h k l =
       get_or-append (take n from) (drop n to) none k (omega (arith, length-take-le n from h)) ∙ get_or-take n from k none l
 
-  -- the same of a list that is known by an equation, and of a count that is the list's length
-  pub copied_by : (n : ℕ) (from to : List A) {m : ℕ} {after : List A} (none : A) → after ≡ over n from to → n ≤ length from → m ≡ n → Copied m from after none
-  copied_by n from to none is h same = rw (is, same) (copied_in n from to none h)
-
+  -- the same where an equation tells the list
   pub copied_out : (n : ℕ) (from to : List A) {after : List A} (none : A) → after ≡ over n from to → n ≤ length from → n ≤ length to → FrontWritten n from to after none
   copied_out n from to none is h g =
       rw is
@@ -40,22 +36,16 @@ module _ {A : Type 0} where
       })
 
 -- The pass that reduces: after k turns the first k fractions are the source's in lowest terms.
-pub reduced_start : (num den upper lower : List ℤ) → FractionsWritten 0 num den upper lower upper lower
-reduced_start num den upper lower = record { uppers = filled_start 0 upper; lowers = filled_start 0 lower; reduced = λ j h. absurd (omega arith) }
-
-pub reduced_turn : {k : ℕ} {num den upper₀ lower₀ upper lower : List ℤ} (q : Fraction) → FractionsWritten k num den upper₀ lower₀ upper lower → k < length upper → k < length lower → Reduced (fraction num den k) q → FractionsWritten (k + 1) num den upper₀ lower₀ (set upper k q.num) (set lower k q.den)
+pub reduced_turn : {k : ℕ} {num den upper₀ lower₀ upper lower : List ℤ} (q : Fraction) → FractionsWritten k num den upper₀ lower₀ upper lower → k < length upper → k < length lower → Reduced (fraction_at num den k) q → FractionsWritten (k + 1) num den upper₀ lower₀ (set upper k q.num) (set lower k q.den)
 reduced_turn {k} {num} {den} {upper₀} {lower₀} {upper} {lower} q w above below r =
     record {
       uppers = filled_turn k upper₀ upper q.num w.uppers;
       lowers = filled_turn k lower₀ lower q.den w.lowers;
       reduced =
-          below_more (λ j. Reduced (fraction num den j) (fraction (set upper k q.num) (set lower k q.den) j)) k
+          below_more (λ j. Reduced (fraction_at num den j) (fraction_at (set upper k q.num) (set lower k q.den) j)) k
           (λ j h. rw (stays upper k j q.num (pos 0) h, stays lower k j q.den (pos 0) h) (w.reduced j h))
           (rw (get_or-set_same upper k q.num (pos 0) above, get_or-set_same lower k q.den (pos 0) below) r);
     }
-
-pub reduced_end : {n k : ℕ} {num den upper₀ lower₀ upper lower : List ℤ} → FractionsWritten k num den upper₀ lower₀ upper lower → k ≤ n → n ≤ k → FractionsWritten n num den upper₀ lower₀ upper lower
-reduced_end {n} {k} w h g = let e : n ≡ k = omega arith in rw e w
 
 -- zero in lowest terms
 pub zero_reduced : (q : Fraction) → q.num ≡ pos 0 → pos 0 <ℤ q.den → Reduced q (record { num = pos 0; den = pos 1 })

@@ -1,18 +1,19 @@
 -- The core's contract on plain slices.
-use Rattle.std.specs.Prelude.{ℕ, ◌+◌, ◌*◌, ◌≤◌, ◌<◌, ◌≡◌, Bool, List, length, get_or, take, ℤ, nat_abs}
+use Rattle.std.specs.Prelude.{ℕ, ◌+◌, ◌*◌, ◌≤◌, ◌<◌, ◌≡◌, Bool, List, Result, Ok, Err, length, get_or, take, ℤ, pos, nat_abs}
 use Rattle.exact.specs.declared.Fraction.{Fraction}
-use Rattle.exact.specs.Fraction.{LowestTerms, Reduced}
+use Rattle.exact.specs.Fraction.{LowestTerms, Reduced, fraction_at}
 use Rattle.ground.specs.declared.Label.{Label}
 use Rattle.ground.specs.declared.GapNumber.{GapNumber}
 use Rattle.least_move.specs.Multipliers.{Conditions}
 use Rattle.least_move.specs.Marks.{Marks}
 use Rattle.ground.specs.Entries.{nat, int, Filled}
-use Rattle.core_forest.specs.Problem.{Problem, Limits, marks_of, sheet_from}
+use Rattle.ground.specs.declared.lists.Lists.{Lists}
+use Rattle.ground.specs.declared.problem.Problem.{Problem}
+use Rattle.core_forest.specs.Problem.{Limits, marks_of, sheet_from}
 use Rattle.core_balance.specs.Places.{DenMost}
 use Rattle.least_move.specs.Ring.{steps_of, IsRing}
-use Rattle.core_project.specs.declared.Projected.{Projected}
-use Rattle.core_project.specs.declared.Projected.TheVariants.{Placed, Ring}
-use Rattle.core_project.specs.Core.{Asked, fraction}
+use Rattle.core_ring.specs.declared.RingSize.{RingSize}
+use Rattle.core_project.specs.Core.{Asked}
 use Rattle.ground.specs.Limits.{block_weight_most, offset_most}
 use denote.Triple.Both.{Both}
 use Rattle.ground.specs.Views.{MutParam}
@@ -30,7 +31,7 @@ pub record FrontWritten {A : Type 0} (n : ℕ) (from before after : List A) (non
 pub record FractionsWritten (n : ℕ) (num den upper lower upper' lower' : List ℤ) : Type 0 where
   pub uppers : Filled n upper upper'
   pub lowers : Filled n lower lower'
-  pub reduced : (k : ℕ) → k < n → Reduced (fraction num den k) (fraction upper' lower' k)
+  pub reduced : (k : ℕ) → k < n → Reduced (fraction_at num den k) (fraction_at upper' lower' k)
 
 -- what is lent to write
 pub record Buffers : Type 0 where
@@ -42,27 +43,48 @@ pub record Buffers : Type 0 where
   pub ring : List ℕ
   pub back : List ℕ
 
+-- the problem that lists tell
 abbrev pub problem_of : (wanted weight : List ℤ) (left right : List ℕ) (distance : List ℤ) (kind : List ℕ) → Problem
 problem_of wanted weight left right distance kind =
     record { labels = length wanted; gaps = length left; left = left; right = right; distance = distance; kind = kind; wanted = wanted; weight = weight }
 
--- within the core's limits, with lists that belong together and room for the results
-pub record Ready (wanted weight : List ℤ) (left right : List ℕ) (distance : List ℤ) (kind : List ℕ) (b : Buffers) : Type 0 where
-  pub limits : Limits (problem_of wanted weight left right distance kind)
-  pub weights : length weight ≡ length wanted
-  pub rights : length right ≡ length left
-  pub distances : length distance ≡ length left
-  pub kinds : length kind ≡ length left
-  pub carrieds : length b.carried ≡ length left
-  pub place_room : (length wanted ≤ length b.place_num) × (length wanted ≤ length b.place_den)
-  pub mult_room : (length left ≤ length b.mult_num) × (length left ≤ length b.mult_den)
-  pub ring_room : (length wanted ≤ length b.ring) × (length wanted ≤ length b.back)
+abbrev pub problem_in : Lists → Problem
+problem_in l = problem_of l.wanted.now l.weight.now l.left.now l.right.now l.distance.now l.kind.now
+
+-- within the core's limits, with lists that belong together
+pub record Listed (p : Problem) : Type 0 where
+  pub limits : Limits p
+  pub wants : length p.wanted ≡ p.labels
+  pub weights : length p.weight ≡ p.labels
+  pub lefts : length p.left ≡ p.gaps
+  pub rights : length p.right ≡ p.gaps
+  pub distances : length p.distance ≡ p.gaps
+  pub kinds : length p.kind ≡ p.gaps
+
+-- with a carried record of that length and room for the results, too
+pub record Ready (p : Problem) (b : Buffers) : Type 0 where
+  pub listed : Listed p
+  pub carrieds : length b.carried ≡ p.gaps
+  pub place_room : (p.labels ≤ length b.place_num) × (p.labels ≤ length b.place_den)
+  pub mult_room : (p.gaps ≤ length b.mult_num) × (p.gaps ≤ length b.mult_den)
+  pub ring_room : (p.labels ≤ length b.ring) × (p.labels ≤ length b.back)
+
+-- the work arrays hold a problem in their front
+pub record Held (p work : Problem) : Type 0 where
+  pub labels : work.labels ≡ p.labels
+  pub gaps : work.gaps ≡ p.gaps
+  pub lefts : Copied p.gaps p.left work.left 0
+  pub rights : Copied p.gaps p.right work.right 0
+  pub distances : Copied p.gaps p.distance work.distance (pos 0)
+  pub kinds : Copied p.gaps p.kind work.kind 0
+  pub wants : Copied p.labels p.wanted work.wanted (pos 0)
+  pub weights : Copied p.labels p.weight work.weight (pos 0)
 
 abbrev pub place_in : Buffers → Label → Fraction
-place_in b i = fraction b.place_num b.place_den i.0
+place_in b i = fraction_at b.place_num b.place_den i.0
 
 abbrev pub multiplier_in : Buffers → GapNumber → Fraction
-multiplier_in b e = fraction b.mult_num b.mult_den e.0
+multiplier_in b e = fraction_at b.mult_num b.mult_den e.0
 
 abbrev pub mark_in : Buffers → GapNumber → Bool
 mark_in b e = marks_of b.carried e.0
@@ -113,12 +135,9 @@ pub record RingGiven (p : Problem) (b after : Buffers) (size : ℕ) : Type 0 whe
   pub back_bytes : (k : ℕ) → k < size → nat after.back k ≤ 1
 
 -- what the core owes for its answer
-abbrev pub SaysOf : Problem → Projected → (b after : Buffers) → Type 0
-SaysOf p Placed b after = Solved p b after
-SaysOf p (Ring size) b after = RingGiven p b after size
-
-abbrev pub ProjectSays : (wanted weight : List ℤ) (left right : List ℕ) (distance : List ℤ) (kind : List ℕ) → Projected → (b after : Buffers) → Type 0
-ProjectSays wanted weight left right distance kind r b after = SaysOf (problem_of wanted weight left right distance kind) r b after
+abbrev pub ProjectSays : Problem → Result (Unit {0}) RingSize → (b after : Buffers) → Type 0
+ProjectSays p (Ok _) b after = Solved p b after
+ProjectSays p (Err size) b after = RingGiven p b after size.0
 
 -- ---- the lent buffers: as a `requires` sees them, and at entry and exit as an `ensures` does
 

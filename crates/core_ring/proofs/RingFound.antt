@@ -18,8 +18,12 @@ use Rattle.least_move.specs.Ring.{Ring, Passable, distance_of, distance_sum, Onc
 use Rattle.least_move.specs.States.{viol, Numbers, Pushed, Pushes}
 use Rattle.core_forest.specs.Tree.{Linked}
 use Rattle.ground.specs.Entries.{nat, int, Each}
-use Rattle.core_forest.specs.Problem.{Problem, Limits, graph_of, marks_of, numbers_of, sheet_from}
+use Rattle.ground.specs.declared.problem.Problem.{Problem}
+use Rattle.core_forest.specs.Problem.{Limits, graph_of, marks_of, numbers_of, sheet_from}
 use Rattle.core_advance.specs.Advance.{Blocked}
+use Rattle.core_worst_gap.specs.declared.Lacking.{Lacking}
+use Rattle.core_ring.specs.declared.Ring.{Ring as Lists}
+use Rattle.core_ring.specs.declared.RingSize.{RingSize}
 use Rattle.core_ring.specs.Way.{Climbable, WayWritten, way_from, gap_above, back_at}
 use Rattle.core_ring.proofs.Climb.{way_more, way_done}
 use Rattle.ground.proofs.Each.{each_map}
@@ -176,7 +180,8 @@ walked_none s rank N X a x e =
       sum = *ℤ-zero N ∙ ring (X a ∷ []) (search quotes depth 12) (search quotes depth 12) refl ∙ ap (λ i. X a -ℤ X i) (sym e);
     }
 
-walked_more : {s : Sheet} {rank : ℕ → ℕ} {N : ℤ} {X : ℕ → ℤ} {a x y : ℕ} {d : ℤ} {t : Step} {ts : List Step} → StepTo s x y d t → N *ℤ d ≡ X y -ℤ X x → rank y < rank x → x ≢ a → Walked s rank N X a y ts → Walked s rank N X a x (t ∷ ts)
+walked_more : {s : Sheet} {rank : ℕ → ℕ} {N : ℤ} {X : ℕ → ℤ} {a x y : ℕ} {d : ℤ} {t : Step} {ts : List Step} → StepTo s x y d t → N *ℤ d ≡ X y -ℤ X x
+    → rank y < rank x → x ≢ a → Walked s rank N X a y ts → Walked s rank N X a x (t ∷ ts)
 walked_more {s} {rank} {N} {X} {a} {x} {y} {d} {t} {ts} st far falls ne w =
     record {
       leads = (st.from, rw st.to w.leads);
@@ -184,11 +189,16 @@ walked_more {s} {rank} {N} {X} {a} {x} {y} {d} {t} {ts} st far falls ne w =
       low = (rw st.from (omega arith), each_map (λ r l. omega (arith, l)) ts w.low);
       away = (rw st.from ne, w.away);
       once = (each_map (λ r l e. omega (arith, l, ap (λ i. rank i.0) e, ap (λ i. rank i.0) st.from)) ts w.low, w.once);
-      sum = ap (λ z. N *ℤ (z +ℤ distance_sum s ts)) st.long ∙ ring (N ∷ d ∷ distance_sum s ts ∷ []) (search quotes depth 12) (search quotes depth 12) refl ∙ ap₂ ◌+ℤ◌ far w.sum ∙ ring (X y ∷ X x ∷ X a ∷ []) (search quotes depth 12) (search quotes depth 12) refl;
+      sum =
+          ap (λ z. N *ℤ (z +ℤ distance_sum s ts)) st.long
+          ∙ ring (N ∷ d ∷ distance_sum s ts ∷ []) (search quotes depth 12) (search quotes depth 12) refl
+          ∙ ap₂ ◌+ℤ◌ far w.sum
+          ∙ ring (X y ∷ X x ∷ X a ∷ []) (search quotes depth 12) (search quotes depth 12) refl;
     }
 
 -- a first step from the root and the steps back to it are a ring, if the first step asks more than there is
-pub ring_of : {s : Sheet} {rank : ℕ → ℕ} {N : ℤ} {X : ℕ → ℤ} {a b : ℕ} {h : ℤ} {t : Step} {ts : List Step} → pos 0 <ℤ N → pos 0 <ℤ viol a b (N *ℤ h) X → StepTo s a b h t → Walked s rank N X a b ts → Ring s t ts
+pub ring_of : {s : Sheet} {rank : ℕ → ℕ} {N : ℤ} {X : ℕ → ℤ} {a b : ℕ} {h : ℤ} {t : Step} {ts : List Step} → pos 0 <ℤ N → pos 0 <ℤ viol a b (N *ℤ h) X
+    → StepTo s a b h t → Walked s rank N X a b ts → Ring s t ts
 ring_of {s} {rank} {N} {X} {a} {b} {h} {t} {ts} above short st w =
     record {
       closed = rw (st.from, st.to) w.leads;
@@ -226,10 +236,12 @@ forth_byte {p} {via} {up} {x} j = ap (λ t. cond t 0 1) (eq-eqb (nat p.left (nat
 back_byte : {p : Problem} {via up : List ℕ} {x : ℕ} → Back p via up x → back_at p.left via x ≡ 1
 back_byte {p} {via} {up} {x} j = ap (λ t. cond t 0 1) (ne_eqb (nat p.left (nat via x)) x j.other)
 
-forth_step : {p : Problem} {via up : List ℕ} {x : ℕ} → nat via x < p.gaps → kind_of (nat p.kind (nat via x)) ≢ ignored → Forth p via up x → StepTo (sheet_from p) x (nat up x) (int p.distance (nat via x)) (step_of (nat via x) 0)
+forth_step : {p : Problem} {via up : List ℕ} {x : ℕ} → nat via x < p.gaps → kind_of (nat p.kind (nat via x)) ≢ ignored → Forth p via up x
+    → StepTo (sheet_from p) x (nat up x) (int p.distance (nat via x)) (step_of (nat via x) 0)
 forth_step l asked j = record { from = ap label j.near; to = ap label j.far; may = (l, passable _ false asked (λ _. refl)); long = refl }
 
-back_step : {p : Problem} {via up : List ℕ} {x : ℕ} → nat via x < p.gaps → kind_of (nat p.kind (nat via x)) ≢ ignored → Back p via up x → StepTo (sheet_from p) x (nat up x) (neg_ℤ (int p.distance (nat via x))) (step_of (nat via x) 1)
+back_step : {p : Problem} {via up : List ℕ} {x : ℕ} → nat via x < p.gaps → kind_of (nat p.kind (nat via x)) ≢ ignored → Back p via up x
+    → StepTo (sheet_from p) x (nat up x) (neg_ℤ (int p.distance (nat via x))) (step_of (nat via x) 1)
 back_step l asked j = record { from = ap label j.near; to = ap label j.far; may = (l, passable _ true asked (λ k. absurd (j.kind k))); long = refl }
 
 -- a tight gap, at the scale N
@@ -274,13 +286,17 @@ module _ {p : Problem} {mark : List ℕ} {a b : ℕ} {at queue via up : List ℕ
 
         forth : Forth p via up x → Up x (step_up p via x)
         forth j =
+            let e = nat via x in
+            let long = tight_forth pu.N (int p.distance e) (pu.X (nat p.left e)) (pu.X (nat p.right e)) tight in
             subst (λ k. Up x (step_of (nat via x) k)) (sym (forth_byte j))
-            (int p.distance (nat via x), forth_step li.gap_in asked j, tight_forth pu.N (int p.distance (nat via x)) (pu.X (nat p.left (nat via x))) (pu.X (nat p.right (nat via x))) tight ∙ ap₂ (λ y z. pu.X y -ℤ pu.X z) j.far j.near)
+            (int p.distance e, forth_step li.gap_in asked j, long ∙ ap₂ (λ y z. pu.X y -ℤ pu.X z) j.far j.near)
 
         back : Back p via up x → Up x (step_up p via x)
         back j =
+            let e = nat via x in
+            let long = tight_back pu.N (int p.distance e) (pu.X (nat p.left e)) (pu.X (nat p.right e)) tight in
             subst (λ k. Up x (step_of (nat via x) k)) (sym (back_byte j))
-            (neg_ℤ (int p.distance (nat via x)), back_step li.gap_in asked j, tight_back pu.N (int p.distance (nat via x)) (pu.X (nat p.left (nat via x))) (pu.X (nat p.right (nat via x))) tight ∙ ap₂ (λ y z. pu.X y -ℤ pu.X z) j.far j.near)
+            (neg_ℤ (int p.distance e), back_step li.gap_in asked j, long ∙ ap₂ (λ y z. pu.X y -ℤ pu.X z) j.far j.near)
 
     abbrev WalkedUp : ℕ → List ℕ → Type 0
     WalkedUp x way = Walked (sheet_from p) (nat at) pu.N pu.X a x (map (step_up p via) way)
@@ -297,13 +313,16 @@ module _ {p : Problem} {mark : List ℕ} {a b : ℕ} {at queue via up : List ℕ
             let hg = hangs bl x e ne in
             subst (WalkedUp x) (sym (way_more n up a x ne)) (walked_more st.1 st.2 hg.linked.later ne (next (nat up x) hg.on_up (omega (arith, hg.linked.later))))
 
-    pub ring_found : Limits p → b < p.labels → (backwards : Bool) (c : ℕ) → c < p.gaps → PushesAs backwards (numbers_of p) c a b h → Ring (sheet_from p) (step_of c (cond backwards 1 0)) (map (step_up p via) (way_from 48 up a b))
+    pub ring_found : Limits p → b < p.labels → (backwards : Bool) (c : ℕ) → c < p.gaps → PushesAs backwards (numbers_of p) c a b h
+        → Ring (sheet_from p) (step_of c (cond backwards 1 0)) (map (step_up p via) (way_from 48 up a b))
     ring_found lim lb backwards c l q = ring_of pu.above pu.short (first_step p backwards c a b h l q) (walk 48 b (on_start bl lb) (rank_most bl lim b (on_start bl lb)))
 
     -- what is written is the ring
-    pub ring_written : Limits p → b < p.labels → (backwards : Bool) (c : ℕ) → c < p.gaps → PushesAs backwards (numbers_of p) c a b h → {size : ℕ} {ring back : List ℕ} → WayWritten c backwards a b p.left via up size ring back → IsRing (sheet_from p) (steps_of (take size ring) (take size back))
-    ring_written lim lb backwards c l q {size} {ring} {back} w =
-        subst (IsRing (sheet_from p)) (sym written) (ring_found lim lb backwards c l q)
+    pub ring_written : Limits p → b < p.labels → {lacking : Lacking} → lacking.gap.0 < p.gaps → PushesAs lacking.backwards (numbers_of p) lacking.gap.0 a b h
+        → {size : RingSize} {ring : Lists} → WayWritten lacking a b p.left via up size ring
+        → IsRing (sheet_from p) (steps_of (take size.0 ring.gaps) (take size.0 ring.back))
+    ring_written lim lb {lacking} l q {size} {ring} w =
+        subst (IsRing (sheet_from p)) (sym written) (ring_found lim lb lacking.backwards lacking.gap.0 l q)
       where
-        written : steps_of (take size ring) (take size back) ≡ step_of c (cond backwards 1 0) ∷ map (step_up p via) (way_from 48 up a b)
-        written = ap₂ steps_of w.gaps w.backs ∙ ap (λ (r : List Step). step_of c (cond backwards 1 0) ∷ r) (steps_map (gap_above via) (back_at p.left via) (way_from 48 up a b))
+        written : steps_of (take size.0 ring.gaps) (take size.0 ring.back) ≡ step_of lacking.gap.0 (cond lacking.backwards 1 0) ∷ map (step_up p via) (way_from 48 up a b)
+        written = ap₂ steps_of w.gaps w.backs ∙ ap (λ (r : List Step). step_of lacking.gap.0 (cond lacking.backwards 1 0) ∷ r) (steps_map (gap_above via) (back_at p.left via) (way_from 48 up a b))

@@ -1,5 +1,5 @@
 -- One outer step: what its turns keep, and what it comes to.
-use mathlib.Core.Path.{◌≡◌, refl, sym, ◌∙◌, ap, ap₂, subst}
+use mathlib.Core.Path.{◌≡◌, refl, sym, ◌∙◌, ap, ap₂}
 use mathlib.Core.Logic.{◌≢◌, ⊎_elim}
 use mathlib.Core.Bool.{Bool, true, false, cond, true≢false}
 use mathlib.Core.List.{List, [], ◌∷◌}
@@ -15,9 +15,15 @@ use Rattle.algebra.proofs.Ring.{ring, quotes}
 use Rattle.least_move.proofs.Forest.{by_mark, independent_drop, independent_join}
 use Rattle.least_move.specs.States.{viol, Numbers, Pushed, Without, With, Pushes}
 use Rattle.ground.specs.Entries.{nat}
-use Rattle.core_forest.specs.Problem.{Problem, Limits, marks_of, numbers_of, IsForest}
+use Rattle.ground.specs.declared.problem.Problem.{Problem}
+use Rattle.core_forest.specs.declared.search.Work.{Work}
+use Rattle.core_forest.specs.declared.state.State.{State}
+use Rattle.core_balance.specs.Balance.{MarkChanged}
+use Rattle.core_balance.proofs.Remarking.{remarked_none, remarked_then, changed_remarked, untouched_then, changed_untouched}
+use Rattle.core_advance.specs.declared.Push.{Push}
+use Rattle.core_forest.specs.Problem.{Limits, marks_of, numbers_of, IsForest}
 use Rattle.core_advance.specs.Advance.{PushedBy, GapDropped, GapReached, BlockedBy}
-use Rattle.core_settle.specs.Raise.{Raised}
+use Rattle.core_settle.specs.Raise.{MarksChanged, Raised}
 
 -- ---- the marks as a list
 
@@ -79,17 +85,17 @@ ones_drop (suc m) mark k l h e = by_mark (eqb k m) last (earlier (λ (d : k < m)
 
 -- ---- what the turns keep
 
-pub record Raising (p : Problem) (a b : ℕ) (h : ℤ) (mark₀ mark : List ℕ) : Type 0 where
+pub record Raising (p : Problem) (push : Push) (mark₀ mark : List ℕ) : Type 0 where
   pub whole : length mark ≡ 192
-  pub forest : IsForest p mark₀ → (num den : ℕ → ℤ) → PushedBy p (marks_of mark₀) a b h num den → IsForest p mark
-  pub pushed : IsForest p mark₀ → (num den : ℕ → ℤ) → PushedBy p (marks_of mark₀) a b h num den → PushedBy p (marks_of mark) a b h num den
+  pub forest : IsForest p mark₀ → (num den : ℕ → ℤ) → PushedBy p (marks_of mark₀) push num den → IsForest p mark
+  pub pushed : IsForest p mark₀ → (num den : ℕ → ℤ) → PushedBy p (marks_of mark₀) push num den → PushedBy p (marks_of mark) push num den
   pub bytes : ((e : ℕ) → e < p.gaps → nat mark₀ e ≤ 1) → (e : ℕ) → e < p.gaps → nat mark e ≤ 1
 
-pub raising_start : (p : Problem) (a b : ℕ) (h : ℤ) (mark : List ℕ) → length mark ≡ 192 → Raising p a b h mark mark
-raising_start p a b h mark l = record { whole = l; forest = λ f num den s. f; pushed = λ f num den s. s; bytes = λ small. small }
+pub raising_start : (p : Problem) (push : Push) (mark : List ℕ) → length mark ≡ 192 → Raising p push mark mark
+raising_start p push mark l = record { whole = l; forest = λ f num den s. f; pushed = λ f num den s. s; bytes = λ small. small }
 
-pub raising_drop : {p : Problem} {a b : ℕ} {h : ℤ} {mark₀ mark : List ℕ} {e : ℕ} → p.gaps ≤ 192 → Raising p a b h mark₀ mark → GapDropped p mark a b h e → Raising p a b h mark₀ (set mark e 0)
-raising_drop {p} {a} {b} {h} {mark₀} {mark} {e} most r d =
+pub raising_drop : {p : Problem} {push : Push} {mark₀ mark : List ℕ} {e : ℕ} → p.gaps ≤ 192 → Raising p push mark₀ mark → GapDropped p mark push e → Raising p push mark₀ (set mark e 0)
+raising_drop {p} {push} {mark₀} {mark} {e} most r d =
     record {
       whole = length-set mark e 0 ∙ r.whole;
       forest = λ f num den s. independent_drop (marks_of (set mark e 0)) fewer (r.forest f num den s);
@@ -139,15 +145,13 @@ ends_apart z S c a b h pushes sa sb e =
     (λ q. true≢false (sym sa ∙ ap S (sym q.0) ∙ sym e ∙ ap S q.1 ∙ sb))
     pushes
 
--- (the code hands the distance on as bits, so that it is told here by an equation)
-pub raised_reached : {p : Problem} {a b : ℕ} {h h' : ℤ} {mark₀ mark via up : List ℕ} (c : ℕ) → h ≡ h' → Limits p → c < p.gaps → Raising p a b h mark₀ mark → GapReached p mark a b h → Raised p mark₀ c a b h' true (set mark c 1) via up
-raised_reached {p} {a} {b} {h} {h'} {mark₀} {mark} {via} {up} c e lim l r d =
-    subst (λ (x : ℤ). Raised p mark₀ c a b x true (set mark c 1) via up) e
-    (record {
-      forest = λ f pushes num den s. independent_join (marks_of (set mark c 1)) d.block c lim.left_in lim.right_in l (ends_apart (numbers_of p) d.block c a b h pushes d.from d.to) d.inside added.others (r.forest f num den s);
-      raised = λ f pushes num den s. d.settled num den (r.forest f num den s) (r.pushed f num den s) c l pushes (not_marked (numbers_of p) (marks_of mark) c a b h num den l pushes (r.pushed f num den s)) (marks_of (set mark c 1)) added;
+pub raised_reached : {p : Problem} {push : Push} {mark₀ mark : List ℕ} {w : Work} (c : ℕ) → Limits p → c < p.gaps → Raising p push mark₀ mark → GapReached p mark push → Raised p mark₀ c push true (set mark c 1) w
+raised_reached {p} {push} {mark₀} {mark} c lim l r d =
+    record {
+      forest = λ f pushes num den s. independent_join (marks_of (set mark c 1)) d.block c lim.left_in lim.right_in l (ends_apart (numbers_of p) d.block c push.from.0 push.to.0 push.reach pushes d.from d.to) d.inside added.others (r.forest f num den s);
+      raised = λ f pushes num den s. d.settled num den (r.forest f num den s) (r.pushed f num den s) c l pushes (not_marked (numbers_of p) (marks_of mark) c push.from.0 push.to.0 push.reach num den l pushes (r.pushed f num den s)) (marks_of (set mark c 1)) added;
       bytes = λ small i k. set_bytes mark c 1 i within (omega arith) (r.bytes small i k);
-    })
+    }
   where
     within : c < length mark
     within = omega (arith, r.whole, lim.gaps_bound, l)
@@ -155,11 +159,18 @@ raised_reached {p} {a} {b} {h} {h'} {mark₀} {mark} {via} {up} c e lim l r d =
     added : With p.gaps (marks_of mark) c (marks_of (set mark c 1))
     added = added_marks mark p.gaps c within
 
-pub raised_ring : {p : Problem} {a b : ℕ} {h h' : ℤ} {mark₀ mark via up : List ℕ} (c : ℕ) → h ≡ h' → Raising p a b h mark₀ mark → BlockedBy p mark a b via up → Raised p mark₀ c a b h' false mark via up
-raised_ring {p} {a} {b} {h} {h'} {mark₀} {mark} {via} {up} c e r d =
-    subst (λ (x : ℤ). Raised p mark₀ c a b x false mark via up) e
-    (record {
-      forest = λ f _ num den s. r.forest f num den s;
-      raised = λ f _ num den s. (r.pushed f num den s, d);
-      bytes = r.bytes;
-    })
+pub raised_ring : {p : Problem} {push : Push} {mark₀ mark : List ℕ} {w : Work} (c : ℕ) → Raising p push mark₀ mark → BlockedBy p mark push w → Raised p mark₀ c push false mark w
+raised_ring c r d = record { forest = λ f _ num den s. r.forest f num den s; raised = λ f _ num den s. (r.pushed f num den s, d); bytes = r.bytes }
+
+-- ---- what the turns change
+
+pub changed_none : {p : Problem} {s : State} → MarksChanged p s s
+changed_none = record { remarked = remarked_none; untouched = record { gap = λ e h. (refl, refl, refl); label = λ n l r i h. refl }; nums = refl }
+
+pub changed_more : {p : Problem} {e to : ℕ} {s₀ s s' : State} → Limits p → e < p.gaps → MarksChanged p s₀ s → MarkChanged e to p s s' → MarksChanged p s₀ s'
+changed_more lim l m c =
+    record {
+      remarked = remarked_then m.remarked (changed_remarked (omega (arith, l, lim.gaps_bound)) c.changed);
+      untouched = untouched_then m.untouched (changed_untouched l c.changed);
+      nums = c.nums ∙ m.nums;
+    }

@@ -1,54 +1,24 @@
 // The outer loop.
-ghost use Rattle.core_forest.specs.Problem.{Limits, problem_lent, problem_now};
-ghost use Rattle.core_standing.specs.Standing.{Standing};
-ghost use Rattle.core_settle.specs.Settle.{Outlying, SettleSays, settle_writes};
-ghost use Rattle.ground.specs.Entries.{Filled};
+ghost use Rattle.core_forest.specs.Problem.{Limits};
+ghost use Rattle.core_standing.specs.Standing.{StandingState};
+ghost use Rattle.core_settle.specs.Settle.{Outlying, RingFilled, SettleSays, settle_writes};
 
+use crate::Found;
 use crate::turn::turn;
-use crate::{Found, TurnEnd};
-use ground::limits::{GapBytes, GapIndices, GapInts, LabelBytes, LabelIndices, LabelInts};
+use core_forest::state::State;
+use core_ring::Ring;
+use ground::problem::Problem;
 
 // Takes outer steps until every gap holds, or a ring of so many gaps was written.
-pub fn settle(
-    labels: usize,
-    gaps: usize,
-    left: &GapIndices,
-    right: &GapIndices,
-    distance: &GapInts,
-    kind: &GapBytes,
-    mark: &mut GapBytes,
-    wanted: &LabelInts,
-    weight: &LabelInts,
-    num: &mut LabelInts,
-    den: &mut LabelInts,
-    ring: &mut LabelIndices,
-    back: &mut LabelBytes,
-    load: &mut GapInts,
-    over: &mut GapInts,
-) -> Found
-    requires { let p = problem_now labels gaps left right distance kind wanted weight in
-        Limits p
-        × Standing p mark.old num.old den.old load.old over.old }
-    ensures { let p = problem_lent labels gaps left right distance kind wanted weight in
-        SettleSays p result mark.new num.new den.new load.new over.new ring.new back.new
-        × Outlying p mark.old num.old den.old load.old over.old mark.new num.new den.new
-        load.new over.new
-        × Filled (settle_writes result) ring.old ring.new
-        × Filled (settle_writes result) back.old back.new }
+pub fn settle(p: &Problem, s: &mut State, ring: &mut Ring) -> Found
+    requires { Limits p.now × StandingState p.now s.old }
+    ensures { SettleSays p.now result s.new ring.new
+        × Outlying p.now s.old s.new
+        × RingFilled (settle_writes result) ring.old ring.new }
 {
     loop {
-        let next = turn(
-            labels, gaps, left, right, distance, kind, mark, wanted, weight, num, den, ring, back,
-            load, over,
-        );
-        match next {
-            TurnEnd::Done => {
-                return Found::Placed;
-            }
-            TurnEnd::Ring(size) => {
-                return Found::Ring(size);
-            }
-            TurnEnd::Again => {}
+        if let Some(found) = turn(p, s, ring) {
+            return found;
         }
     }
 }

@@ -1,94 +1,59 @@
 // One turn of the outer loop: the gap that holds least is raised, and the blocks that changed are balanced.
 ghost use Rattle.std.specs.Prelude.{◌≡◌, ◌<◌, ◌≤◌, nat_abs};
-ghost use Rattle.ground.specs.Entries.{Filled, int};
-ghost use Rattle.core_forest.specs.Problem.{Limits, problem_lent, problem_now};
-ghost use Rattle.core_settle.specs.Settle.{Outlying, push_of, TurnSays, turn_writes};
-ghost use Rattle.core_standing.specs.Standing.{Standing};
+ghost use Rattle.ground.specs.Entries.{int};
+ghost use Rattle.core_forest.specs.Problem.{Limits};
+ghost use Rattle.core_settle.specs.Settle.{Outlying, RingFilled, TurnSays, push_of, turn_writes};
+ghost use Rattle.core_standing.specs.Standing.{StandingState};
 ghost use Rattle.ground.specs.Limits.{distance_most, gaps_most};
 
+use crate::Found;
 use crate::raise::raise;
-use crate::{Push, TurnEnd};
+use core_advance::Push;
 use core_balance::rebalance;
-use core_ring::way;
-use core_worst_gap::{Worst, worst_gap};
-use ground::limits::{GapBytes, GapIndices, GapInts, LABELS, LabelBytes, LabelIndices, LabelInts};
-use ground::signs::turned;
-use ground::{GapNumber, Label};
+use core_forest::search::Work;
+use core_forest::state::State;
+use core_ring::{Ring, way};
+use core_worst_gap::{Lacking, worst_gap};
+use ground::Label;
+use ground::problem::Problem;
 
-// The push of gap e: an exact gap may push backwards, from its right end to its left.
-fn push_of(
-    e: GapNumber,
-    backwards: bool,
-    left: &GapIndices,
-    right: &GapIndices,
-    distance: &GapInts,
-) -> Push
-    requires { (e.0 < gaps_most) × (nat_abs (int distance.now e.0) ≤ distance_most) }
-    ensures { result ≡ push_of left.now right.now distance.now e.0 backwards }
+// The push of a gap that does not hold: an exact gap may push backwards, from its right end to its left.
+fn push_of(p: &Problem, lacking: Lacking) -> Push
+    requires { (lacking.gap.0 < gaps_most) × (nat_abs (int p.now.distance lacking.gap.0) ≤ distance_most) }
+    ensures { result ≡ push_of p.now lacking }
 {
-    let k = e.0;
-    if backwards {
+    let k = lacking.gap.0;
+    let left = Label(p.left[k]);
+    let right = Label(p.right[k]);
+    if lacking.backwards {
         return Push {
-            from: Label(right[k]),
-            to: Label(left[k]),
-            reach: turned(distance[k]),
+            from: right,
+            to: left,
+            reach: -p.distance[k],
         };
     }
     Push {
-        from: Label(left[k]),
-        to: Label(right[k]),
-        reach: distance[k],
+        from: left,
+        to: right,
+        reach: p.distance[k],
     }
 }
 
-// Takes one outer step, if a gap does not hold.
-pub(crate) fn turn(
-    labels: usize,
-    gaps: usize,
-    left: &GapIndices,
-    right: &GapIndices,
-    distance: &GapInts,
-    kind: &GapBytes,
-    mark: &mut GapBytes,
-    wanted: &LabelInts,
-    weight: &LabelInts,
-    num: &mut LabelInts,
-    den: &mut LabelInts,
-    ring: &mut LabelIndices,
-    back: &mut LabelBytes,
-    load: &mut GapInts,
-    over: &mut GapInts,
-) -> TurnEnd
-    requires { let p = problem_now labels gaps left right distance kind wanted weight in
-        Limits p
-        × Standing p mark.old num.old den.old load.old over.old }
-    ensures { let p = problem_lent labels gaps left right distance kind wanted weight in
-        TurnSays p mark.old num.old den.old result mark.new num.new den.new load.new over.new
-        ring.new back.new
-        × Outlying p mark.old num.old den.old load.old over.old mark.new num.new den.new
-        load.new over.new
-        × Filled (turn_writes result) ring.old ring.new
-        × Filled (turn_writes result) back.old back.new }
+// Takes one outer step, if a gap does not hold. Gives what the outer loop comes to, unless another step is due.
+pub(crate) fn turn(p: &Problem, s: &mut State, ring: &mut Ring) -> Option<Found>
+    requires { Limits p.now × StandingState p.now s.old }
+    ensures { TurnSays p.now s.old result s.new ring.new
+        × Outlying p.now s.old s.new
+        × RingFilled (turn_writes result) ring.old ring.new }
 {
-    let worst = worst_gap(gaps, left, right, distance, kind, num, den);
-    let Worst::Gap(e, backwards) = worst else {
-        return TurnEnd::Done;
+    let Some(lacking) = worst_gap(p, &s.num, &s.den) else {
+        return Some(Ok(()));
     };
-    let push = push_of(e, backwards, left, right, distance);
-    let a = push.from;
-    let b = push.to;
-    let mut via = [0usize; LABELS];
-    let mut up = [0usize; LABELS];
-    let reached = raise(
-        labels, gaps, e, a, b, push.reach, left, right, distance, kind, mark, wanted, weight,
-        &mut via, &mut up, den, load, over,
-    );
-    if reached {
-        rebalance(
-            labels, gaps, left, right, distance, mark, wanted, weight, &mut via, &mut up, num, den,
-            load, over,
-        );
-        return TurnEnd::Again;
+    let push = push_of(p, lacking);
+    let mut w = Work::new();
+    if raise(p, lacking.gap, push, &mut w, s) {
+        rebalance(p, &mut w, s);
+        return None;
     }
-    TurnEnd::Ring(way(e, backwards, a, b, left, &via, &up, ring, back))
+    Some(Err(way(p, lacking, push.from, push.to, &w, ring)))
 }

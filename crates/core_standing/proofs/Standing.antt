@@ -1,5 +1,4 @@
 -- What a forest in balance gives: places within their bounds, which can be compared, and a start for the outer loop.
-use mathlib.Core.Path.{◌≡◌, subst}
 use mathlib.Core.List.{List, []}
 use Prim.Native.Nat.{ℕ, ◌*◌, ◌≤◌, ◌<◌}
 use native.Mathlib.Omega.{arith}
@@ -10,13 +9,12 @@ use Rattle.least_move.specs.States.{StateAt, Lawful, Settled}
 use Rattle.least_move.proofs.Ending.{Small, DensIn, PlacesIn}
 use Rattle.ground.specs.Entries.{nat, int}
 use Rattle.core_elimination.proofs.Ranges.{above_most}
-use Rattle.core_forest.specs.Problem.{Problem, Limits, marks_of, numbers_of, with_kind}
+use Rattle.ground.specs.declared.problem.Problem.{Problem}
+use Rattle.core_forest.specs.Problem.{Limits, marks_of, numbers_of, plain}
 use Rattle.core_balance.specs.Places.{PlacesFound}
 use Rattle.core_balance.proofs.Placing.{den_limit, places_kind}
 use Rattle.core_balance.specs.Balance.{Balanced}
-use Rattle.core_worst_gap.specs.WorstGap.{GapHolds, WorstOf, PlaceInRange, Comparable}
-use Rattle.core_worst_gap.specs.declared.Worst.{Worst}
-use Rattle.core_worst_gap.specs.declared.Worst.TheVariants.{Nothing}
+use Rattle.core_worst_gap.specs.WorstGap.{PlaceInRange, Comparable}
 use Rattle.core_standing.specs.Standing.{Startable, Standing}
 
 -- ---- places within their bounds
@@ -63,7 +61,7 @@ module _ {p : Problem} (lim : Limits p) where
           num_most = omega (arith, num_near i l, den_size i l);
         }
 
-    pub comparable : Comparable p.gaps p.left p.right p.distance num den
+    pub comparable : Comparable p num den
     comparable =
         record {
           gaps_bound = lim.gaps_bound;
@@ -71,12 +69,6 @@ module _ {p : Problem} (lim : Limits p) where
           right_placed = λ e l. place_in_range (nat p.right e) (lim.right_in e l);
           distance_bound = lim.distance_bound;
         }
-
--- ---- where no gap lacks
-
--- what the search for a gap that does not hold says, at its result
-pub none_lacks : (left right : List ℕ) (distance : List ℤ) (kind : List ℕ) (num den : List ℤ) (gaps : ℕ) {w : Worst} → w ≡ Nothing → WorstOf left right distance kind num den gaps w → (e : ℕ) → e < gaps → GapHolds left right distance kind num den e
-none_lacks left right distance kind num den gaps is o = subst (WorstOf left right distance kind num den gaps) is o
 
 -- ---- the start of the outer loop
 
@@ -86,7 +78,7 @@ settled mark num den found N X Λ above state lawful =
     record { N = N; X = X; Λ = Λ; above = above; state = state; lawful = lawful; places = λ i l. (found i l).placed N X Λ above state }
 
 -- the start of the loop
-pub standing : {p : Problem} {mark : List ℕ} (num den load over : List ℤ) → Startable p mark → Balanced (with_kind p []) mark num den load over → Standing p mark num den load over
+pub standing : {p : Problem} {mark : List ℕ} (num den load over : List ℤ) → Startable p mark → Balanced (plain p) mark num den load over → Standing p mark num den load over
 standing {p} {mark} num den load over s b =
     let found : PlacesFound p mark num den = places_kind p [] mark num den b.found in
     record {

@@ -1,9 +1,11 @@
 -- What the method stands on between outer steps: a forest in balance with lawful multipliers.
-use Rattle.std.specs.Prelude.{ℕ, ◌≤◌, ◌<◌, List, [], ℤ, pos, ◌<ℤ◌}
+use Rattle.std.specs.Prelude.{ℕ, ◌≤◌, ◌<◌, List, ℤ, pos, ◌<ℤ◌}
 use Rattle.least_move.specs.States as States
 use Rattle.least_move.specs.States.{StateAt, Settled}
 use Rattle.ground.specs.Entries.{nat, int}
-use Rattle.core_forest.specs.Problem.{Problem, marks_of, numbers_of, IsForest, with_kind}
+use Rattle.ground.specs.declared.problem.Problem.{Problem}
+use Rattle.core_forest.specs.Problem.{marks_of, numbers_of, plain, IsForest}
+use Rattle.core_forest.specs.declared.state.State.{State}
 use Rattle.core_balance.specs.Places.{PlacesFound}
 use Rattle.core_balance.specs.Balance.{Balanced}
 use Rattle.core_worst_gap.specs.WorstGap.{GapHolds}
@@ -25,8 +27,11 @@ pub record Standing (p : Problem) (mark : List ℕ) (num den load over : List �
   pub bytes : (e : ℕ) → e < p.gaps → nat mark e ≤ 1
   pub settled : Settled (numbers_of p) (marks_of mark) (int num) (int den)
   pub found : PlacesFound p mark num den
-  pub balanced : Balanced (with_kind p []) mark num den load over
+  pub balanced : Balanced (plain p) mark num den load over
+
+abbrev pub StandingState : Problem → State → Type 0
+StandingState p s = Standing p s.mark s.num s.den s.load s.over
 
 -- every gap holds
-abbrev pub AllHold : Problem → List ℤ → List ℤ → Type 0
-AllHold p num den = (e : ℕ) → e < p.gaps → GapHolds p.left p.right p.distance p.kind num den e
+abbrev pub AllHold : Problem → (num den : List ℤ) → Type 0
+AllHold p num den = (e : ℕ) → e < p.gaps → GapHolds p num den e

@@ -1,5 +1,4 @@
 #![tactic(auto)]
 // The forest of marked gaps in doubles: how the labels hang, with the sums over what hangs under each. Nobody trusts it.
 pub mod nodes;
-pub mod roots;
 pub mod sums;

@@ -2,7 +2,7 @@
 use Prim.Native.Nat.{ℕ}
 use mathlib.Core.Path.{◌≡◌, sym}
 use mathlib.Core.List.{List}
-use Rattle.ground.specs.declared.Answer.TheVariants.{Placed}
+use Rattle.ground.specs.Answers as answer
 use Rattle.sheet_checks.specs.Lent.{Read, Written}
 use Rattle.layout.specs.TwoCalls.{BothPromised}
 use Rattle.layout.proofs.Facts.{zero_placed}
@@ -10,7 +10,7 @@ use Rattle.layout.proofs.TwoCalls.{any_two_calls}
 use Rattle.dirmoog_c.specs.Exported.{Laid}
 use Rattle.dirmoog_c.specs.TwoLaid.{TwoLaid}
 
-placed : {r : Read} {w : Written} {out : List ℕ} {after : Written} {out_after : List ℕ} (call : Laid r w out 0 after out_after) → call.answer ≡ Placed
+placed : {r : Read} {w : Written} {out : List ℕ} {after : Written} {out_after : List ℕ} (call : Laid r w out 0 after out_after) → call.answer ≡ answer.placed
 placed call = zero_placed call.kept (sym call.returned)
 
 pub two_laid : TwoLaid

@@ -7,21 +7,19 @@ use mathlib.Core.List.{List, [], ◌∷◌}
 use native.Mathlib.Omega.{arith}
 use lib.ListN.{replicate}
 use lib.IntN.{ℤ, pos, negsuc, nat_abs}
-use Rattle.single_fractions.specs.declared.SlackAnswer.{SlackAnswer}
+use Rattle.std.specs.Prelude.{Ok}
 use Rattle.single_fractions.specs.Places.{within_places}
 use Rattle.exact.specs.Nearest.{round_ties_to_away, round_half_up}
 use Rattle.single_fractions.specs.declared.Ties.{Ties}
 use Rattle.single_fractions.specs.declared.Ties.TheVariants.{AwayFromZero, Up}
 use Rattle.single_fractions.specs.Round.{rounded, whole_of}
 use Rattle.exact.specs.Slack.{euclid, lowest_of}
-use Rattle.single_fractions.specs.Slack.{slack_answer}
-use Rattle.ground.specs.declared.Answer.TheVariants.{Placed}
-use Rattle.ground.specs.Answers.{number_of, refused_place, refusal}
+use Rattle.single_fractions.specs.Slack.{SlackAnswer, slack_answer}
+use Rattle.ground.specs.Answers.{placed, number_of, refused_place, refusal}
 use Rattle.text_rows.specs.Bytes.{bytes}
 use Rattle.text_rows.specs.Lines.{fields, lines}
 use Rattle.text_rows.specs.Numeral.{all_digits, digits_of, number, signed, value_of, weight_of}
 use Rattle.text_rows.specs.Taking.{no_field, row_of, same_bytes}
-use Rattle.text_reading.specs.declared.Reading.TheVariants.{Sheet}
 use Rattle.text_reading.specs.Texts.{Lists, read_from, reading}
 use Rattle.text_listing.specs.Listing.{Listable, listed_in, refused_record}
 use Rattle.text_listing.specs.Listing as writing
@@ -33,7 +31,7 @@ pub place_for_number : number_of (refusal 6 1 0) ≢ refused_place (refusal 6 1 
 place_for_number same = omega arith
 
 -- the count of gaps for that of labels: two labels and one gap
-pub gaps_for_labels : read_first (Sheet (record { labels = 2; gaps = 1 })) ≢ read_second (Sheet (record { labels = 2; gaps = 1 }))
+pub gaps_for_labels : read_first (Ok (record { labels = 2; gaps = 1 })) ≢ read_second (Ok (record { labels = 2; gaps = 1 }))
 gaps_for_labels same = omega arith
 
 -- of a text whose label is out of turn and has a bad weight C is told 14, the line and the fourth field: neither 15, nor the
@@ -76,15 +74,15 @@ sized nums dens left right = record {
 
 -- denominators listed as numerators: 49 numerators are 1, and 48 beside 49 denominators are 3
 pub places_upside_down :
-    writing.number_of (listed_in Placed no_field (sized 49 48 0 0) []).answer
-    ≢ writing.number_of (listed_in Placed no_field (sized 48 49 0 0) []).answer
+    writing.number_of (listed_in placed no_field (sized 49 48 0 0) []).answer
+    ≢ writing.number_of (listed_in placed no_field (sized 48 49 0 0) []).answer
 unfolding listed_in
 places_upside_down same = let numbers : ◌≡◌ {A = ℕ} 1 3 = same in omega arith
 
 -- right labels listed as left ones: 193 left labels are 2, and 192 beside 193 right ones are 3
 pub gaps_turned :
-    writing.number_of (listed_in Placed no_field (sized 0 0 193 192) []).answer
-    ≢ writing.number_of (listed_in Placed no_field (sized 0 0 192 193) []).answer
+    writing.number_of (listed_in placed no_field (sized 0 0 193 192) []).answer
+    ≢ writing.number_of (listed_in placed no_field (sized 0 0 192 193) []).answer
 unfolding listed_in
 gaps_turned same = let numbers : ◌≡◌ {A = ℕ} 2 3 = same in omega arith
 

@@ -1,16 +1,16 @@
 #![tactic(auto)]
-// The library for C and Rust: thin functions over the proved entries, on numbers and slices only.
-// Anything may be lent.
+// The library for C and Rust: thin functions over the proved entries, on numbers and slices only, each a parameter of its own,
+// as the C interface has them. Anything may be lent.
 ghost use Rattle.std.specs.Prelude.{◌≡◌, set};
 ghost use Rattle.single_fractions.specs.declared.Ties.TheVariants.{AwayFromZero, Up};
 ghost use Rattle.single_fractions.specs.Round.{rounded};
 ghost use Rattle.single_fractions.specs.Slack.{slack_answer};
-ghost use Rattle.sheet_checks.specs.Lent.{room_lent, sheet_lent};
-ghost use Rattle.ground.specs.Answers.{number_of, refused_place, ring_length_of};
-ghost use Rattle.dirmoog_c.specs.Exported.{Laid, RoundTold, SlackTold};
+ghost use Rattle.sheet_checks.specs.Lent.{room_lent};
+ghost use Rattle.dirmoog_c.specs.Exported.{Laid, RoundTold, SlackTold, sheet_of_lists};
 
 use exact::Fraction;
-use ground::Answer;
+use ground::answers::{number_of, place_of, ring_of};
+use ground::lists::Lists;
 use layout::lists::lay_out;
 use single_fractions::Ties;
 use single_fractions::round::round;
@@ -18,47 +18,9 @@ use single_fractions::slack::slack;
 
 pub mod text;
 
-// The number of an answer.
-fn number_of(answer: Answer) -> usize
-    ensures { result ≡ number_of answer }
-{
-    match answer {
-        Answer::Placed => 0,
-        Answer::Refused(refusal) => refusal.number,
-    }
-}
-
-// The place of an answer.
-fn place_of(answer: Answer) -> usize
-    ensures { result ≡ refused_place answer }
-{
-    match answer {
-        Answer::Placed => 0,
-        Answer::Refused(refusal) => refusal.place,
-    }
-}
-
-// The ring's length of an answer.
-fn ring_of(answer: Answer) -> usize
-    ensures { result ≡ ring_length_of answer }
-{
-    match answer {
-        Answer::Placed => 0,
-        Answer::Refused(refusal) => refusal.ring,
-    }
-}
-
-// Writes a number to an entry of a list, if the list has it.
-pub(crate) fn put(out: &mut [usize], at: usize, x: usize)
-    ensures { out.new ≡ set out.old at x }
-{
-    if at < out.len() {
-        out[at] = x;
-    }
-}
-
-// Writes a signed number to an entry of a list, if the list has it.
-fn put_signed(out: &mut [i64], at: usize, x: i64)
+// Writes a number to an entry of a list, if the list has it. Of an entry lent by `get_mut` no clause says where it is
+// written back, so the proof did not close.
+pub(crate) fn put<T: Copy>(out: &mut [T], at: usize, x: T)
     ensures { out.new ≡ set out.old at x }
 {
     if at < out.len() {
@@ -85,18 +47,24 @@ pub extern "C" fn dirmoog_layout(
     back: &mut [u8],
     out: &mut [usize],
 ) -> usize
-    ensures { let sheet = sheet_lent wanted weight left right distance kind in
+    ensures { let sheet = sheet_of_lists wanted weight left right distance kind in
         let room = room_lent carried place_num place_den mult_num mult_den ring back in
         Laid sheet room.entry out.old result room.exit out.new }
 {
+    let lists = Lists {
+        wanted,
+        weight,
+        left,
+        right,
+        distance,
+        kind,
+    };
     let answer = lay_out(
-        wanted, weight, left, right, distance, kind, carried, place_num, place_den, mult_num,
-        mult_den, ring, back,
+        lists, carried, place_num, place_den, mult_num, mult_den, ring, back,
     );
-    let number = number_of(answer);
     put(out, 0, place_of(answer));
     put(out, 1, ring_of(answer));
-    number
+    number_of(answer)
 }
 
 // Rounds a fraction to whole units by a rule for halves, and tells the whole number.
@@ -104,8 +72,8 @@ fn round_told(ties: Ties, num: i64, den: i64, out: &mut [i64]) -> usize
     ensures { RoundTold (rounded ties num den) out.old result out.new }
 {
     let answer = round(ties, num, den);
-    put_signed(out, 0, answer.whole());
-    answer.number()
+    put(out, 0, answer.unwrap_or(0));
+    number_of(answer)
 }
 
 // Rounds a fraction to whole units, halves away from zero. Gives 0, or 12 for a bad fraction;
@@ -149,8 +117,8 @@ pub extern "C" fn dirmoog_slack(
         den: right_den,
     };
     let answer = slack(left, right, distance);
-    let given = answer.slack();
-    put_signed(out, 0, given.num);
-    put_signed(out, 1, given.den);
-    answer.number()
+    let given = answer.unwrap_or(Fraction { num: 0, den: 1 });
+    put(out, 0, given.num);
+    put(out, 1, given.den);
+    number_of(answer)
 }

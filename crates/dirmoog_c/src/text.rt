@@ -2,33 +2,22 @@
 ghost use Rattle.std.specs.Prelude.{◌≡◌};
 ghost use Rattle.dirmoog_c.specs.Texted.{ListingTold, ReadTold, answer_of, read_first, read_second};
 ghost use Rattle.text_listing.specs.Listing as writing;
-ghost use Rattle.text_reading.specs.Readings as readings;
 ghost use Rattle.text_reading.specs.Texts.{lists_lent};
 
 use crate::put;
+use ground::answers::number_of;
 use ground::{Answer, Refusal};
-use text_listing::Listed;
 use text_listing::listing::write_listing;
 use text_reading::Reading;
 use text_reading::read::read_sheet;
-
-// The number of a reading.
-fn read_number(reading: Reading) -> usize
-    ensures { result ≡ readings.number_of reading }
-{
-    match reading {
-        Reading::Sheet(_) => 0,
-        Reading::Refused(refusal, _) => refusal.number,
-    }
-}
 
 // The count of labels, or the place of a refusal.
 fn read_first(reading: Reading) -> usize
     ensures { result ≡ read_first reading }
 {
     match reading {
-        Reading::Sheet(counts) => counts.labels,
-        Reading::Refused(refusal, _) => refusal.place,
+        Ok(counts) => counts.labels,
+        Err(unread) => unread.refusal.place,
     }
 }
 
@@ -37,8 +26,8 @@ fn read_second(reading: Reading) -> usize
     ensures { result ≡ read_second reading }
 {
     match reading {
-        Reading::Sheet(counts) => counts.gaps,
-        Reading::Refused(_, field) => field,
+        Ok(counts) => counts.gaps,
+        Err(unread) => unread.field,
     }
 }
 
@@ -59,10 +48,9 @@ pub extern "C" fn dirmoog_read(
         ReadTold text.now l.entry out.old result l.exit out.new }
 {
     let reading = read_sheet(text, wanted, weight, left, right, distance, kind);
-    let number = read_number(reading);
     put(out, 0, read_first(reading));
     put(out, 1, read_second(reading));
-    number
+    number_of(reading.map_err(|unread| unread.refusal))
 }
 
 // The answer of a number and a place: 0 is placed.
@@ -70,33 +58,13 @@ fn answer_of(number: usize, place: usize) -> Answer
     ensures { result ≡ answer_of number place }
 {
     if number == 0 {
-        return Answer::Placed;
+        return Ok(());
     }
-    Answer::Refused(Refusal {
+    Err(Refusal {
         number,
         place,
         ring: 0,
     })
-}
-
-// The number of a listing.
-fn listed_number(listed: Listed) -> usize
-    ensures { result ≡ writing.number_of listed }
-{
-    match listed {
-        Listed::Written(_) => 0,
-        Listed::Refused(refusal) => refusal.number,
-    }
-}
-
-// The count of bytes that a listing wrote.
-fn listed_bytes(listed: Listed) -> usize
-    ensures { result ≡ writing.bytes_of listed }
-{
-    match listed {
-        Listed::Written(bytes) => bytes,
-        Listed::Refused(_) => 0,
-    }
 }
 
 // Writes the listing of an answer to the front of text; a refusal's field is printed as it is handed.
@@ -123,6 +91,6 @@ pub extern "C" fn dirmoog_listing(
     let listed = write_listing(
         answer, field, place_num, place_den, left, right, distance, text,
     );
-    put(out, 0, listed_bytes(listed));
-    listed_number(listed)
+    put(out, 0, listed.unwrap_or(0));
+    number_of(listed)
 }

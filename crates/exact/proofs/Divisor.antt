@@ -1,15 +1,17 @@
 -- Divisors: Euclid's step, Gauss's lemma, and fractions in lowest terms, which are unique.
 use mathlib.Core.Path.{◌≡◌, refl, sym, ◌∙◌, ap}
-use mathlib.Core.Logic.{◌⊎◌, inl, inr}
+use mathlib.Core.Bool.{Bool, true, false}
 use mathlib.Core.List.{[], ◌∷◌}
-use Prim.Native.Nat.{ℕ, zero, suc, ◌+◌, ◌-◌, ◌*◌, ◌/◌, ◌%◌, ◌≤◌, ◌<◌, ◌∣◌}
+use Prim.Native.Nat.{ℕ, zero, suc, ◌+◌, ◌-◌, ◌*◌, ◌/◌, ◌%◌, min, ◌≤◌, ◌<◌, ◌∣◌}
 use native.Mathlib.Omega.{arith}
 use native.Mathlib.Nat.{dvd_refl, dvd-zero, dvd-mul_left, dvd-mul_right, dvd_trans, dvd-mul_left_of_dvd, one-dvd, dvd-add_iff_left, dvd-add_iff_right, dvd-mod_iff, dvd_antisymm, pos_of_dvd_of_pos, le_of_dvd, mod-lt, mod-add-div', mul-dvd-mul_left, mul-dvd-mul_right, dvd_of_mul-dvd-mul_left, eq-one_of_dvd-one}
+use lib.Dec.{ltb}
+use borrow.Author.Tests.{ltb-true, ltb-false}
 use lib.IntN.{ℤ, pos, nat_abs, ◌*ℤ◌, *ℤ_comm, *ℤ-zero}
 use lib.Signed.{◌<ℤ◌, rem_z}
 use Rattle.exact.specs.declared.Fraction.{Fraction}
 use Rattle.exact.specs.Fraction.{◌≃◌, LowestTerms, Reduced}
-use Rattle.exact.specs.Divide.{GreatestCommonDivisor, IsDivisor, no_divisor}
+use Rattle.exact.specs.Divide.{no_divisor, GreatestCommonDivisor, IsDivisor}
 use Rattle.algebra.proofs.Whole.{parts_lt, *ℤ-cancel, *ℤ-lt_cancel}
 use Rattle.algebra.proofs.Ring.{ring, quotes}
 use Rattle.algebra.proofs.Quotient.{nat_abs-*, nat_abs-rem, pos_of_above, nat_abs-above}
@@ -34,9 +36,16 @@ gcd_part {y} {a} {b} {g} e c =
       greatest = λ k p q. c.greatest k p ((dvd-add_iff_right k q).1 (rw e p));
     }
 
-pub gcd_nearer : {x y r g : ℕ} → x % y ≤ y → (r ≡ x % y) ⊎ (r ≡ y - x % y) → GreatestCommonDivisor y r g → GreatestCommonDivisor x y g
-gcd_nearer h (inl e) c = gcd_step (rw e at c)
-gcd_nearer {x} {y} h (inr e) c = gcd_step (gcd_part {b = y - x % y} (omega arith) (rw e at c))
+pub gcd_nearer : {x y r g : ℕ} → x % y ≤ y → r ≡ min (x % y) (y - x % y) → GreatestCommonDivisor y r g → GreatestCommonDivisor x y g
+gcd_nearer {x} {y} {r} {g} h e c = go (ltb (y - x % y) (x % y)) refl
+  where
+    go : (t : Bool) → ltb (y - x % y) (x % y) ≡ t → GreatestCommonDivisor x y g
+    go true k =
+        let is : r ≡ y - x % y = omega (arith, ltb-true (y - x % y) (x % y) k) in
+        gcd_step (gcd_part {b = y - x % y} (omega arith) (rw is at c))
+    go false k =
+        let is : r ≡ x % y = omega (arith, ltb-false (y - x % y) (x % y) k) in
+        gcd_step (rw is at c)
 
 gcd_unstep : {x y g : ℕ} → GreatestCommonDivisor x y g → GreatestCommonDivisor y (x % y) g
 gcd_unstep {x} {y} {g} c =
@@ -89,6 +98,7 @@ is_divisor {den} {rest} {a} {b} {g} h ea eb c =
       divides = rw (← ea, ← eb) (gcd_swap c);
     }
 
+-- that of 0/1, where none is known
 pub none_divides : IsDivisor no_divisor
 none_divides = is_divisor (record { lt = tt }) refl refl (gcd_end 1)
 

@@ -1,12 +1,11 @@
 -- The greatest common divisor, and the order of two fractions as an answer.
-use Rattle.std.specs.Prelude.{ℕ, ◌≤◌, cond, ℤ, pos, nat_abs, ◌*ℤ◌, ◌<ℤ◌, ◌≤ℤ◌}
+use Rattle.std.specs.Prelude.{ℕ, ◌≤◌, ℤ, pos, nat_abs, ◌*ℤ◌, ◌<ℤ◌, ◌≤ℤ◌}
 use Rattle.std.specs.Int.{◌∣◌}
-use Rattle.std.specs.Int.Signed.{lt_z}
+use Rattle.std.specs.Ordering.{int_cmp}
+use Rattle.std.specs.declared.cmp.Ordering.{Ordering}
 use Rattle.ground.specs.Limits.{fraction_den_most, fraction_num_most}
 use Rattle.exact.specs.declared.Fraction.{Fraction}
 use Rattle.exact.specs.declared.known.Divisor.{Divisor}
-use Rattle.exact.specs.declared.Order.{Order}
-use Rattle.exact.specs.declared.Order.TheVariants.{Below, Same, Above}
 
 -- g divides a and b, and whatever divides both divides g
 pub record GreatestCommonDivisor (a b g : ℕ) : Type 0 where
@@ -24,12 +23,12 @@ pub record IsDivisor (d : Divisor) : Type 0 where
 abbrev pub no_divisor : Divisor
 no_divisor = record { den = pos 1; rest = pos 0; common = pos 1 }
 
--- where a whole number stands to another
-unfoldable pub order_z : ℤ → ℤ → Order
-order_z x y = cond (lt_z x y) Below (cond (lt_z y x) Above Same)
+-- where a whole number stands to another: Less, Equal or Greater
+unfoldable pub order_z : ℤ → ℤ → Ordering
+order_z x y = int_cmp x y
 
 -- where a fraction stands to another, over a common denominator
-unfoldable pub order_of : Fraction → Fraction → Order
+unfoldable pub order_of : Fraction → Fraction → Ordering
 order_of a b = order_z (a.num *ℤ b.den) (b.num *ℤ a.den)
 
 -- the fractions that comparison and rounding away from zero take: a denominator from 1, and both within their limits

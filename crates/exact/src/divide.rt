@@ -1,19 +1,11 @@
 // The greatest common divisor, and fractions in lowest terms.
-ghost use Rattle.std.specs.Prelude.{◌≡◌, ◌⊎◌, ◌<◌, ◌≤◌, pos, ◌<ℤ◌};
-ghost use Rattle.std.specs.Int.Signed.{quot_z, rem_z};
+ghost use Rattle.std.specs.Prelude.{◌≡◌, pos, ◌<ℤ◌};
+ghost use Rattle.std.specs.Int.Signed.{rem_z};
 ghost use Rattle.exact.specs.Fraction.{Reduced};
 ghost use Rattle.exact.specs.Divide.{GreatestCommonDivisor, IsDivisor};
 
 use crate::Fraction;
-use crate::known::{Divisor, no_divisor};
-use ground::signs::magnitude;
-
-// The smaller of two numbers.
-fn nearer(a: u64, b: u64) -> u64
-    ensures { (result ≤ a) × (result ≤ b) × ((result ≡ a) ⊎ (result ≡ b)) }
-{
-    if a < b { a } else { b }
-}
+use crate::known::Divisor;
 
 // The greatest common divisor, by Euclid's remainders.
 // Each is taken to the nearer multiple, so that y at least halves at every turn.
@@ -25,25 +17,9 @@ pub fn gcd(a: u64, b: u64) -> u64
     while y != 0 {
         let rest = x % y;
         x = y;
-        y = nearer(rest, y - rest);
+        y = rest.min(y - rest);
     }
     x
-}
-
-// The quotient toward zero.
-fn quotient(num: i64, den: i64) -> i64
-    requires { pos 0 <ℤ den }
-    ensures { result ≡ quot_z num den }
-{
-    num / den
-}
-
-// The remainder, with the sign of num.
-fn remainder(num: i64, den: i64) -> i64
-    requires { pos 0 <ℤ den }
-    ensures { result ≡ rem_z num den }
-{
-    num % den
 }
 
 // The divisor of a fraction: the one known before, where denominator and remainder are the same.
@@ -52,16 +28,14 @@ pub fn divisor(num: i64, den: i64, before: Divisor) -> Divisor
     requires { (pos 0 <ℤ den) × IsDivisor before }
     ensures { IsDivisor result × (result.den ≡ den) × (result.rest ≡ rem_z num den) }
 {
-    let rest = remainder(num, den);
-    if den == before.den {
-        if rest == before.rest {
-            return before;
-        }
+    let rest = num % den;
+    if den == before.den && rest == before.rest {
+        return before;
     }
     Divisor {
         den,
         rest,
-        common: gcd(magnitude(den), magnitude(rest)) as i64,
+        common: gcd(den.unsigned_abs(), rest.unsigned_abs()) as i64,
     }
 }
 
@@ -75,8 +49,8 @@ pub fn lowest_by(num: i64, den: i64, d: Divisor) -> Fraction
         return Fraction { num, den };
     }
     Fraction {
-        num: quotient(num, g),
-        den: quotient(den, g),
+        num: num / g,
+        den: den / g,
     }
 }
 
@@ -85,5 +59,5 @@ pub fn lowest(num: i64, den: i64) -> Fraction
     requires { pos 0 <ℤ den }
     ensures { Reduced (record { num = num; den = den }) result }
 {
-    lowest_by(num, den, divisor(num, den, no_divisor()))
+    lowest_by(num, den, divisor(num, den, Divisor::NONE))
 }

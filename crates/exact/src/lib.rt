@@ -7,16 +7,9 @@ pub mod divide;
 pub mod known;
 
 // A whole number over a whole number above zero. An entry may be given any two numbers.
-#[derive(Clone, Copy)]
+// `==` asks for the same two numbers: 1/2 and 2/4 differ, and `compare` finds them equal.
+#[derive(Clone, Copy, Debug, PartialEq, Eq)]
 pub struct Fraction {
     pub num: i64,
     pub den: i64,
-}
-
-// Where one fraction stands to another.
-#[derive(Clone, Copy)]
-pub enum Order {
-    Below,
-    Same,
-    Above,
 }

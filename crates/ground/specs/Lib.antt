@@ -3,3 +3,4 @@ pub mod Kinds
 pub mod Views
 pub mod Entries
 pub mod Answers
+pub mod Rules

@@ -1,5 +1,6 @@
 -- What a call on each sheet of the bench comes to: the table lets all of them pass, by one test computed over the list,
 -- and then the promise and what is right of the case leave one answer.
+use Rattle.std.specs.Prelude.{Ok, Err}
 use Prim.Native.Nat.{ℕ, ◌<◌}
 use mathlib.Core.Path.{◌≡◌, refl, sym, ◌∙◌, ap, ap₂, subst, subst₂}
 use mathlib.Core.Bool.{Bool, true, false}
@@ -11,11 +12,10 @@ use lib.ListN.{length, get_or, length-map, get_or-map}
 use lib.IntN.{pos}
 use Rattle.exact.specs.Fraction.{LowestTerms, whole}
 use Rattle.exact.proofs.Divisor.{lowest_unique}
-use Rattle.ground.specs.declared.Answer.{Answer}
-use Rattle.ground.specs.declared.Answer.TheVariants as answer
 use Rattle.ground.specs.declared.GapNumber.{GapNumber}
 use Rattle.ground.specs.declared.Label.{Label}
-use Rattle.ground.specs.Answers.{refusal, ring_length_of}
+use Rattle.ground.specs.Answers.{Answer, refusal, ring_length_of}
+use Rattle.ground.specs.Answers as answer
 use Rattle.ground.specs.Entries.{Each}
 use Rattle.least_move.specs.Sheet.{Sheet, Proper, kind_of, label}
 use Rattle.least_move.specs.Placement.{Feasible}
@@ -28,10 +28,8 @@ use Rattle.least_move.specs.Bench as bench
 use Rattle.least_move.proofs.Bench.{Test, granted, ◌on◌, each, bench_right}
 use Rattle.least_move.proofs.Opposite.{entry}
 use Rattle.least_move.proofs.Places.{conditions_places}
-use Rattle.sheet_checks.specs.declared.Checked.{Checked}
-use Rattle.sheet_checks.specs.declared.Checked.TheVariants as checked
 use Rattle.sheet_checks.specs.Lent.{Written, label_count, gap_count, gap_of, sheet_of, place_of, multiplier_of}
-use Rattle.sheet_checks.specs.Refusals.{offender_below, table_of, ragged, rows, table}
+use Rattle.sheet_checks.specs.Refusals.{pass, offender_below, table_of, ragged, rows, table}
 use Rattle.sheet_checks.proofs.Passed.{passed_proper}
 use Rattle.least_move.specs.Marks.{Step}
 use Rattle.layout.specs.Promise.{Promise, Accepted, RingGiven, steps_told}
@@ -43,16 +41,16 @@ use Rattle.layout.proofs.Facts.{judged, placed_accepted, places_known}
 -- the table of a bench sheet, where its buffers have room
 abbrev Fits : Form → bench.Written → Type 0
 Fits f s =
-    table_of (label_count (lend f s)) (gap_count (lend f s)) (ragged (lend f s) (length s.carried)) false (rows (lend f s)) ≡ checked.Pass
+    table_of (label_count (lend f s)) (gap_count (lend f s)) (ragged (lend f s) (length s.carried)) false (rows (lend f s)) ≡ pass
 
-is_pass : Checked → Bool
-is_pass checked.Pass = true
-is_pass (checked.Refused q) = false
+is_pass : Answer → Bool
+is_pass (Ok _) = true
+is_pass (Err q) = false
 
-shows_pass : (c : Checked) → T (is_pass c) → c ≡ checked.Pass
+shows_pass : (c : Answer) → T (is_pass c) → c ≡ pass
 unfolding is_pass
-shows_pass checked.Pass h = refl
-shows_pass (checked.Refused q) h = absurd h
+shows_pass (Ok _) h = refl
+shows_pass (Err q) h = absurd h
 
 abbrev fits? : (f : Form) (s : bench.Written) → Test (Fits f s)
 fits? f s = record { passes = is_pass _; shows = shows_pass _ }
@@ -89,7 +87,7 @@ lent_table f s l =
     ap₂ (λ (n : ℕ) (short : Bool). table_of (label_count (lend f s)) (gap_count (lend f s)) (ragged (lend f s) n) short (rows (lend f s)))
     (ap length l.carried) l.room
 
-lent_passes : (f : Form) (s : bench.Written) {w : Written} → LentWith f s w → Fits f s → table (lend f s) w ≡ checked.Pass
+lent_passes : (f : Form) (s : bench.Written) {w : Written} → LentWith f s w → Fits f s → table (lend f s) w ≡ pass
 lent_passes f s l fits = lent_table f s l ∙ fits
 
 -- ---- both forms tell the sheet that is written
@@ -141,10 +139,10 @@ module _ (c : Placed) (right : RightPlaced c) (fits : FitsBoth c.sheet) where
     same : sheet_of (lend f c.sheet) ≡ written c.sheet
     same = lend_same f c.sheet
 
-    passed : table (lend f c.sheet) w ≡ checked.Pass
+    passed : table (lend f c.sheet) w ≡ pass
     passed = lent_passes f c.sheet l (fits f)
 
-    known : (a ≡ answer.Placed) × ((i : Label) → i.0 < length c.sheet.wants → place_of after i ≡ placement c i)
+    known : (a ≡ answer.placed) × ((i : Label) → i.0 < length c.sheet.wants → place_of after i ≡ placement c i)
     known =
         places_known promise passed (placement c) (multipliers c)
         (subst (λ (s : Sheet). Conditions s (placement c) (multipliers c)) (sym same) right.conditions) place_lowest

@@ -1,5 +1,6 @@
 -- What the checks leave is what the core asks, and what the core says is what document 01 owes of a sheet that
 -- passed.
+use Rattle.std.specs.Prelude.{Result, Ok, Err}
 use Prim.Native.Nat.{ℕ, suc, ◌≤◌, ◌<◌}
 use mathlib.Core.Path.{◌≡◌, refl, sym, ◌∙◌, ap, subst}
 use mathlib.Core.Logic.{inl, inr}
@@ -20,24 +21,22 @@ use Rattle.least_move.specs.Marks.{Step}
 use Rattle.least_move.specs.Ring.{steps_of, IsRing}
 use Rattle.least_move.proofs.Laws.{least_of_conditions, ring_excludes}
 use Rattle.ground.specs.Entries.{nat, int, Filled}
-use Rattle.core_forest.specs.Problem.{Problem, Limits, sheet_from}
-use Rattle.core_project.specs.Project.{Buffers, Ready, Solved, problem_of}
+use Rattle.core_forest.specs.Problem.{Limits, sheet_from}
+use Rattle.ground.specs.declared.problem.Problem.{Problem}
+use Rattle.ground.specs.declared.lists.Lists.{Lists}
+use Rattle.core_project.specs.Project.{Buffers, Ready, Solved, problem_in}
 use Rattle.core_project.specs.Project as core
-use Rattle.core_project.specs.declared.Projected.{Projected}
-use Rattle.core_project.specs.declared.Projected.TheVariants as Found
+use Rattle.core_ring.specs.declared.RingSize.{RingSize}
 use Rattle.core_project.proofs.Agreeing.{Agree, conditions_agree, marks_agree, is_ring_agree}
-use Rattle.ground.specs.declared.Answer.{Answer}
-use Rattle.ground.specs.declared.Answer.TheVariants.{Placed, Refused}
 use Rattle.ground.specs.declared.Refusal.{Refusal}
-use Rattle.sheet_checks.specs.Lent.{Read, Written, sheet_of, place_of, multiplier_of}
-use Rattle.sheet_checks.specs.declared.Checked.TheVariants as checked
-use Rattle.sheet_checks.specs.Refusals.{outside, unequal, uneven_sizes, rows, table}
+use Rattle.sheet_checks.specs.Lent.{Read, Written, sheet_now, sheet_of, place_of, multiplier_of}
+use Rattle.sheet_checks.specs.Refusals.{pass, outside, unequal, uneven_sizes, rows, table}
 use Rattle.layout.specs.Answered.{answer_of}
 use Rattle.layout.specs.Promise.{Promise, ByTable, Judged, Accepted, RingGiven, steps_told}
-use Rattle.ground.specs.Answers.{refusal}
+use Rattle.ground.specs.Answers.{Answer, refusal}
 use Rattle.sheet_checks.proofs.Passed.{Passed, table_passed, or_clear, same_of_not, ends_in, passed_proper}
 use Rattle.sheet_checks.proofs.Told.{table_ringless}
-use Rattle.sheet_checks.proofs.CheckLaws.{read_of, even_of_clear}
+use Rattle.sheet_checks.proofs.CheckLaws.{even_of_clear}
 
 -- ---- tests of one number
 
@@ -91,20 +90,18 @@ steps_length (e ∷ es) [] l = absurd (omega arith)
 steps_length (e ∷ es) (b ∷ backs) l = ap suc (steps_length es backs (omega arith))
 
 -- ---- a sheet that the table lets pass
-module _
-    (wanted weight : List ℤ) (left right : List ℕ) (distance : List ℤ) (kind : List ℕ) (w : Written)
-    (passes : table (read_of wanted weight left right distance kind) w ≡ checked.Pass) where
+module _ (l : Lists) (w : Written) (passes : table (sheet_now l) w ≡ pass) where
   abbrev sheet : Read
-  sheet = read_of wanted weight left right distance kind
+  sheet = sheet_now l
 
   abbrev given : Problem
-  given = problem_of wanted weight left right distance kind
+  given = problem_in l
 
   passed : Passed sheet w
   passed = table_passed sheet w passes
 
-  ends : (e : ℕ) → e < length left → (nat left e < length wanted) × (nat right e < length wanted)
-  ends e h = ends_in (nat left e) (nat right e) (length wanted) (passed.known e h)
+  ends : (e : ℕ) → e < given.gaps → (nat given.left e < given.labels) × (nat given.right e < given.labels)
+  ends e h = ends_in (nat given.left e) (nat given.right e) given.labels (passed.known e h)
 
   limits : Limits given
   limits =
@@ -113,32 +110,39 @@ module _
         gaps_bound = passed.few_gaps;
         left_in = λ e h. (ends e h).0;
         right_in = λ e h. (ends e h).1;
-        distance_bound = λ e h. within 19999 (int distance e) (passed.measured e h);
-        wanted_bound = λ i h. omega (arith, within 199999 (int wanted i) (passed.on_plate i h));
-        weight_low = λ i h. (weight_within (int weight i) (passed.weighed i h)).0;
-        weight_high = λ i h. (weight_within (int weight i) (passed.weighed i h)).1;
+        distance_bound = λ e h. within 19999 (int given.distance e) (passed.measured e h);
+        wanted_bound = λ i h. omega (arith, within 199999 (int given.wanted i) (passed.on_plate i h));
+        weight_low = λ i h. (weight_within (int given.weight i) (passed.weighed i h)).0;
+        weight_high = λ i h. (weight_within (int given.weight i) (passed.weighed i h)).1;
       }
 
-  pub passed_ready : Ready wanted weight left right distance kind (buffers_of w)
+  pub passed_ready : Ready (problem_in l) (buffers_of w)
   passed_ready =
-      let even = even_of_clear wanted weight left right distance kind (length w.carried) passed.even in
-      let uneven = uneven_sizes (length left) (length right) (length distance) (length kind) in
-      let carried = or_clear (unequal (length weight) (length wanted) || uneven) (unequal (length w.carried) (length left)) passed.even in
-      let room = or_clear _ (ltb (length w.mult_den) (length left)) passed.room in
-      let mults = or_clear _ (ltb (length w.mult_num) (length left)) room.0 in
-      let backs = or_clear _ (ltb (length w.back) (length wanted)) mults.0 in
-      let rings = or_clear _ (ltb (length w.ring) (length wanted)) backs.0 in
-      let places = or_clear (ltb (length w.place_num) (length wanted)) (ltb (length w.place_den) (length wanted)) rings.0 in
+      let labels = given.labels in
+      let gaps = given.gaps in
+      let even = even_of_clear l (length w.carried) passed.even in
+      let uneven = uneven_sizes gaps (length l.right.now) (length l.distance.now) (length l.kind.now) in
+      let carried = or_clear (unequal (length l.weight.now) labels || uneven) (unequal (length w.carried) gaps) passed.even in
+      let room = or_clear _ (ltb (length w.mult_den) gaps) passed.room in
+      let mults = or_clear _ (ltb (length w.mult_num) gaps) room.0 in
+      let backs = or_clear _ (ltb (length w.back) labels) mults.0 in
+      let rings = or_clear _ (ltb (length w.ring) labels) backs.0 in
+      let places = or_clear (ltb (length w.place_num) labels) (ltb (length w.place_den) labels) rings.0 in
       record {
-        limits = limits;
-        weights = even.weights;
-        rights = even.rights;
-        distances = even.distances;
-        kinds = even.kinds;
-        carrieds = same_of_not (length w.carried) (length left) carried.1;
-        place_room = (ltb-false (length w.place_num) (length wanted) places.0, ltb-false (length w.place_den) (length wanted) places.1);
-        mult_room = (ltb-false (length w.mult_num) (length left) mults.1, ltb-false (length w.mult_den) (length left) room.1);
-        ring_room = (ltb-false (length w.ring) (length wanted) rings.1, ltb-false (length w.back) (length wanted) backs.1);
+        listed =
+            record {
+              limits = limits;
+              wants = refl;
+              weights = even.weights;
+              lefts = refl;
+              rights = even.rights;
+              distances = even.distances;
+              kinds = even.kinds;
+            };
+        carrieds = same_of_not (length w.carried) gaps carried.1;
+        place_room = (ltb-false (length w.place_num) labels places.0, ltb-false (length w.place_den) labels places.1);
+        mult_room = (ltb-false (length w.mult_num) gaps mults.1, ltb-false (length w.mult_den) gaps room.1);
+        ring_room = (ltb-false (length w.ring) labels rings.1, ltb-false (length w.back) labels backs.1);
       }
 
   sheets_agree : Agree (sheet_from given) (sheet_of sheet)
@@ -172,8 +176,8 @@ module _
         bytes = λ e h. s.bytes e.0 h;
         places_lowest = s.places_lowest;
         multipliers_lowest = s.multipliers_lowest;
-        den_most = λ i h. s.den_most i.0 h 100 (λ j l. weight_hundred (int weight j) (passed.weighed j l));
-        near = λ i h. s.num_most i.0 h 200000 (λ j l. within 199999 (int wanted j) (passed.on_plate j l));
+        den_most = λ i h. s.den_most i.0 h 100 (λ j l. weight_hundred (int given.weight j) (passed.weighed j l));
+        near = λ i h. s.num_most i.0 h 200000 (λ j l. within 199999 (int given.wanted j) (passed.on_plate j l));
       }
     where
       conditions : Conditions (sheet_of sheet) (place_of (written_of after)) (multiplier_of (written_of after))
@@ -184,7 +188,7 @@ module _
   ring_refused {after} {size} g = go (steps_told size (written_of after)) refl (is_ring_agree sheets_agree (steps_told size (written_of after)) g.ring)
     where
       -- a part of either ring buffer as long as the ring
-      front : (before filled : List ℕ) → length wanted ≤ length before → Filled size before filled → length (take size filled) ≡ size
+      front : (before filled : List ℕ) → given.labels ≤ length before → Filled size before filled → length (take size filled) ≡ size
       front before filled room f = length-take-le size filled (omega (arith, g.most, room, f.size))
 
       told : length (steps_told size (written_of after)) ≡ size
@@ -211,35 +215,21 @@ module _
         },
       )
 
-  -- the core's answer
-  module _ (after : Buffers) (found : Projected) {a : Answer} (says : core.SaysOf given found (buffers_of w) after) where
-    judged_placed : found ≡ Found.Placed → a ≡ Placed → Judged (sheet_of sheet) w a (written_of after)
-    judged_placed f e = inl (e, accepted (subst (λ (x : Projected). core.SaysOf given x (buffers_of w) after) f says))
-
-    judged_ring : {size : ℕ} → found ≡ Found.Ring size → a ≡ refusal 9 0 size → Judged (sheet_of sheet) w a (written_of after)
-    judged_ring {size} f e =
-        let told : ((p : Placement) → ¬ (Feasible (sheet_of sheet) p)) × RingGiven (sheet_of sheet) w (written_of after) size =
-        ring_refused (subst (λ (x : Projected). core.SaysOf given x (buffers_of w) after) f says) in
+  -- what the core answers is what is owed
+  module _ (after : Buffers) where
+    pub judged : (found : Result (Unit {0}) RingSize) {a : Answer} → core.ProjectSays given found (buffers_of w) after → a ≡ answer_of found → Judged (sheet_of sheet) w a (written_of after)
+    judged (Ok _) says e = inl (e, accepted says)
+    judged (Err size) says e =
+        let told = ring_refused says in
         subst (λ (x : Answer). Judged (sheet_of sheet) w x (written_of after)) (sym e) (inr (refl, told.0, told.1))
-
-    pub judged : a ≡ answer_of found → Judged (sheet_of sheet) w a (written_of after)
-    judged = go found refl
-      where
-        go : (x : Projected) → found ≡ x → a ≡ answer_of x → Judged (sheet_of sheet) w a (written_of after)
-        go Found.Placed f e = judged_placed f e
-        go (Found.Ring size) f e = judged_ring f e
-
--- the answer to a ring
-pub ring_answered : (found : Projected) (size : ℕ) → found ≡ Found.Ring size → refusal 9 0 size ≡ answer_of found
-ring_answered found size e = sym (ap answer_of e)
 
 -- ---- the promise
 
-pub refused_kept : {r : Read} {w : Written} {q : Refusal} → checked.Refused q ≡ table r w → Promise r w (Refused q) w
-refused_kept {r} {w} {q} e = record { kept = subst (λ v. ByTable v (sheet_of r) w (Refused q) w) e (told, refl) }
+pub refused_kept : {r : Read} {w : Written} {q : Refusal} {a : Answer} → Err q ≡ table r w → a ≡ Err q → Promise r w a w
+refused_kept {r} {w} {q} {a} e f = record { kept = subst (λ v. ByTable v (sheet_of r) w a w) e (f ∙ told, refl) }
   where
-    told : Refused q ≡ refusal q.number q.place 0
+    told : Err q ≡ refusal q.number q.place 0
     told = ap (λ (n : ℕ). refusal q.number q.place n) (table_ringless _ _ _ _ (rows r) (sym e))
 
-pub judged_kept : {r : Read} {w after : Written} {a : Answer} → checked.Pass ≡ table r w → Judged (sheet_of r) w a after → Promise r w a after
+pub judged_kept : {r : Read} {w after : Written} {a : Answer} → pass ≡ table r w → Judged (sheet_of r) w a after → Promise r w a after
 judged_kept {r} {w} {after} {a} e j = record { kept = subst (λ v. ByTable v (sheet_of r) w a after) e j }

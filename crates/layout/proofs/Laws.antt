@@ -1,4 +1,5 @@
 -- Laws that document 01 says aloud, as theorems of the promise of a layout call.
+use Rattle.std.specs.Prelude.{Ok}
 use Prim.Native.Nat.{ℕ, zero, suc, ◌≤◌, ◌<◌}
 use mathlib.Core.Path.{◌≡◌, refl, sym, ap}
 use mathlib.Core.Logic.{◌≢◌}
@@ -15,9 +16,8 @@ use Rattle.single_fractions.specs.Round.{rounded, whole_by}
 use Rattle.single_fractions.specs.declared.Ties.{Ties}
 use Rattle.single_fractions.proofs.PlaceLimits.{places_pass}
 use Rattle.single_fractions.proofs.Rounding.{answers}
-use Rattle.single_fractions.specs.declared.Rounded.TheVariants.{Whole}
-use Rattle.ground.specs.declared.Answer.{Answer}
-use Rattle.ground.specs.declared.Answer.TheVariants.{Placed}
+use Rattle.ground.specs.Answers.{Answer}
+use Rattle.ground.specs.Answers as answer
 use Rattle.ground.specs.declared.GapNumber.{GapNumber}
 use Rattle.ground.specs.declared.GapRecord.{GapRecord}
 use Rattle.ground.specs.declared.Label.{Label}
@@ -25,9 +25,8 @@ use Rattle.ground.specs.Limits.{place_num_most}
 use Rattle.least_move.specs.Sheet.{label}
 use Rattle.least_move.specs.Placement.{Placement, Feasible, LeastMove}
 use Rattle.least_move.proofs.Laws.{least_unique}
-use Rattle.sheet_checks.specs.declared.Checked.TheVariants.{Pass}
 use Rattle.sheet_checks.specs.Lent.{Read, Written, label_count, gap_count, record_at, sheet_of, place_of}
-use Rattle.sheet_checks.specs.Refusals.{table}
+use Rattle.sheet_checks.specs.Refusals.{pass, table}
 use Rattle.sheet_checks.proofs.Passed.{passed_proper}
 use Rattle.least_move.specs.Marks.{forwards}
 use Rattle.layout.specs.Promise.{Promise, Accepted, byte_at}
@@ -39,7 +38,7 @@ unmarked zero h never = refl
 unmarked (suc zero) h never = absurd (never refl)
 unmarked (suc (suc n)) h never = absurd (omega arith)
 
-module _ {r : Read} {w after : Written} {a : Answer} (promise : Promise r w a after) (placed : a ≡ Placed) where
+module _ {r : Read} {w after : Written} {a : Answer} (promise : Promise r w a after) (placed : a ≡ answer.placed) where
   accepted : Accepted (sheet_of r) w after
   accepted = placed_accepted promise placed
 
@@ -84,12 +83,12 @@ module _ {r : Read} {w after : Written} {a : Answer} (promise : Promise r w a af
 
   -- so rounding gives its whole unit
   pub place_rounded : (ties : Ties) (i : Label) → i.0 < label_count r
-      → rounded ties (place_of after i).num (place_of after i).den ≡ Whole (whole_by ties (place_of after i).num (place_of after i).den)
+      → rounded ties (place_of after i).num (place_of after i).den ≡ Ok (whole_by ties (place_of after i).num (place_of after i).den)
   place_rounded ties i h = sym (answers ties (place_of after i).num (place_of after i).den (place_within i h))
 
 -- "It is unique when a feasible one exists": then the call is placed, at the only least move
-module _ {r : Read} {w after : Written} {a : Answer} (promise : Promise r w a after) (passes : table r w ≡ Pass) {p : Placement} (feasible : Feasible (sheet_of r) p) where
-  placed_there : a ≡ Placed
+module _ {r : Read} {w after : Written} {a : Answer} (promise : Promise r w a after) (passes : table r w ≡ pass) {p : Placement} (feasible : Feasible (sheet_of r) p) where
+  placed_there : a ≡ answer.placed
   placed_there = (placed_exactly promise passes).1 (p, feasible)
 
   pub least_move_there : LeastMove (sheet_of r) (place_of after)

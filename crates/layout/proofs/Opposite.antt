@@ -8,11 +8,10 @@ use lib.ListN.{length, length-map, get_or-map}
 use lib.IntN.{ℤ}
 use Rattle.exact.specs.declared.Fraction.{Fraction}
 use Rattle.exact.proofs.Divisor.{lowest_unique}
-use Rattle.ground.specs.declared.Answer.{Answer}
-use Rattle.ground.specs.declared.Answer.TheVariants.{Placed}
 use Rattle.ground.specs.declared.GapRecord.{GapRecord}
 use Rattle.ground.specs.declared.Label.{Label}
-use Rattle.ground.specs.Answers.{refusal, ring_length_of}
+use Rattle.ground.specs.Answers.{Answer, refusal, ring_length_of}
+use Rattle.ground.specs.Answers as answer
 use Rattle.ground.specs.Entries.{int, no_record}
 use Rattle.least_move.specs.Sheet.{Sheet, Proper, label}
 use Rattle.least_move.specs.Opposite.{Replaced, with_gaps}
@@ -20,8 +19,7 @@ use Rattle.least_move.specs.Placement.{Placement, Feasible}
 use Rattle.least_move.proofs.Laws.{least_same}
 use Rattle.least_move.proofs.Opposite.{replaced_feasible, replaced_least, opposed_replaced}
 use Rattle.sheet_checks.specs.Lent.{Read, Written, label_count, gap_of, sheet_of, place_of, multiplier_of}
-use Rattle.sheet_checks.specs.declared.Checked.TheVariants.{Pass}
-use Rattle.sheet_checks.specs.Refusals.{table}
+use Rattle.sheet_checks.specs.Refusals.{pass, table}
 use Rattle.sheet_checks.proofs.Passed.{passed_proper}
 use Rattle.layout.specs.Promise.{Promise, Accepted}
 use Rattle.layout.specs.Opposite.{BothPlaced, BothNine, OppositeSame, lend_records, LentReplaced}
@@ -29,13 +27,13 @@ use Rattle.layout.proofs.Facts.{judged, placed_exactly, placed_accepted}
 
 module _ {r : Read} {w : Written} {a : Answer} {after : Written} {r' : Read} {w' : Written} {a' : Answer} {after' : Written}
     (one : Promise r w a after) (two : Promise r' w' a' after')
-    (replaced : Replaced (sheet_of r) (sheet_of r')) (passes : table r w ≡ Pass) (passes' : table r' w' ≡ Pass) where
+    (replaced : Replaced (sheet_of r) (sheet_of r')) (passes : table r w ≡ pass) (passes' : table r' w' ≡ pass) where
   proper : Proper (sheet_of r)
   proper = passed_proper r w passes
 
   -- where the one is placed, so is the other, at the same places
-  module _ (placed : a ≡ Placed) (here : Accepted (sheet_of r) w after) where
-    placed_too : a' ≡ Placed
+  module _ (placed : a ≡ answer.placed) (here : Accepted (sheet_of r) w after) where
+    placed_too : a' ≡ answer.placed
     placed_too = (placed_exactly two passes').1 (place_of after, (replaced_feasible proper replaced (place_of after)).0 here.least.feasible)
 
     same_place : (i : Label) → i.0 < label_count r → place_of after i ≡ place_of after' i

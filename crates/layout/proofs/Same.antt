@@ -1,4 +1,5 @@
 -- The promise of a layout call does not depend on how its gaps are lent: as lists or as records.
+use Rattle.std.specs.Prelude.{Ok, Err}
 use Prim.Native.Nat.{ℕ, ◌<◌}
 use mathlib.Core.Path.{◌≡◌, refl, ◌∙◌, ap, ap₂, subst}
 use mathlib.Core.Logic.{inl, inr}
@@ -8,13 +9,11 @@ use lib.Dec.{ltb}
 use lib.ListN.{length}
 use lib.IntN.{ℤ, pos, neg_ℤ}
 use Rattle.ground.specs.declared.GapRecord.{GapRecord}
-use Rattle.ground.specs.declared.Answer.{Answer}
+use Rattle.ground.specs.Answers.{Answer}
 use Rattle.least_move.specs.Sheet.{Sheet, Gap, Proper}
 use Rattle.least_move.specs.Multipliers.{Conditions}
 use Rattle.least_move.proofs.Laws.{least_of_conditions, ring_excludes}
 use Rattle.core_project.proofs.Agreeing.{Agree, conditions_agree, marks_agree, ring_agree}
-use Rattle.sheet_checks.specs.declared.Checked.{Checked}
-use Rattle.sheet_checks.specs.declared.Checked.TheVariants as checked
 use Rattle.sheet_checks.specs.Lent.{Read, Written, LentGaps, count_of, record_at, gap_of, sheet_of, place_of, multiplier_of}
 use Rattle.sheet_checks.specs.Refusals.{in_turn, offender_below, offender, size_tests, table_of, unequal, outside, room_of, uneven}
 use Rattle.sheet_checks.specs.Refusals.{short, neither, off_plate, bad_weight, stranger, bad_gap, bad_kind, rows, table}
@@ -115,7 +114,7 @@ module _ (wanted weight : List ℤ) {g g' : LentGaps} (same : SameGaps g g') (w 
       ∙ ap (λ n. offender_below 23 n (bad_kind r').bad) same.count
 
   -- the sizes' checks, from the gaps' number and whether their lists are uneven
-  abbrev sizes : ℕ → Bool → List Checked
+  abbrev sizes : ℕ → Bool → List Answer
   sizes n u =
       size_tests (length wanted) n (unequal (length weight) (length wanted) || u || unequal (length w.carried) n)
       (short (length wanted) n (room_of w))
@@ -125,15 +124,15 @@ module _ (wanted weight : List ℤ) {g g' : LentGaps} (same : SameGaps g g') (w 
   tables_same =
       ap (λ n. in_turn (sizes n (uneven g) ++ map offender (rows r))) same.count
       ∙ ap (λ u. in_turn (sizes (count_of g') u ++ map offender (rows r))) same.even
-      ∙ ap₂ (λ (c d : Checked). in_turn (sizes (count_of g') (uneven g') ++ (offender (off_plate r) ∷ offender (bad_weight r) ∷ c ∷ d ∷ offender (bad_kind r) ∷ [])))
+      ∙ ap₂ (λ (c d : Answer). in_turn (sizes (count_of g') (uneven g') ++ (offender (off_plate r) ∷ offender (bad_weight r) ∷ c ∷ d ∷ offender (bad_kind r) ∷ [])))
       strangers_same bad_gaps_same
-      ∙ ap (λ (c : Checked). in_turn (sizes (count_of g') (uneven g') ++ (offender (off_plate r) ∷ offender (bad_weight r) ∷ offender (stranger r') ∷ offender (bad_gap r') ∷ c ∷ [])))
+      ∙ ap (λ (c : Answer). in_turn (sizes (count_of g') (uneven g') ++ (offender (off_plate r) ∷ offender (bad_weight r) ∷ offender (stranger r') ∷ offender (bad_gap r') ∷ c ∷ [])))
       bad_kinds_same
 
   -- what is promised of the one is promised of the other
   pub promise_same : (after : Written) (a : Answer) → Promise r w a after → Promise r' w a after
   promise_same after a p = record { kept = go (table r' w) refl (subst (λ v. ByTable v (sheet_of r) w a after) tables_same p.kept) }
     where
-      go : (v : Checked) → table r' w ≡ v → ByTable v (sheet_of r) w a after → ByTable v (sheet_of r') w a after
-      go (checked.Refused q) e k = k
-      go checked.Pass e k = judged_agree sheets_agree (passed_proper r' w e) w after k
+      go : (v : Answer) → table r' w ≡ v → ByTable v (sheet_of r) w a after → ByTable v (sheet_of r') w a after
+      go (Err q) e k = k
+      go (Ok _) e k = judged_agree sheets_agree (passed_proper r' w e) w after k

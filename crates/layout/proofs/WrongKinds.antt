@@ -14,7 +14,7 @@ use lib.Seq.{get_or-take}
 use lib.IntN.{pos, nat_abs}
 use Rattle.exact.specs.declared.Fraction.{Fraction}
 use Rattle.exact.specs.Fraction.{◌≼◌, whole}
-use Rattle.ground.specs.declared.Answer.{Answer}
+use Rattle.ground.specs.Answers.{Answer}
 use Rattle.ground.specs.declared.GapNumber.{GapNumber}
 use Rattle.ground.specs.declared.Label.{Label}
 use Rattle.ground.specs.Entries.{nat, int}

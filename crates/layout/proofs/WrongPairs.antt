@@ -1,6 +1,7 @@
 -- Wrong second calls on a revision, P4 after P3: each breaks what is promised of the two (specs/TwoCalls), in whichever forms they
 -- are lent. The laws for moved wants alone do not ask for a least move: a layout that stays as it was meets them. So the promise
 -- of each call stands beside them. Nothing cites them.
+use Rattle.std.specs.Prelude.{Err}
 use mathlib.Core.Path.{◌≡◌, sym, ◌∙◌, ap}
 use native.Mathlib.Omega.{arith}
 use Prim.Native.Nat.{ℕ}
@@ -9,8 +10,7 @@ use lib.IntN.{nat_abs}
 use Rattle.exact.specs.declared.Fraction.{Fraction}
 use Rattle.exact.specs.Total.{total}
 use Rattle.ground.specs.declared.Refusal.{Refusal}
-use Rattle.ground.specs.declared.Answer.{Answer}
-use Rattle.ground.specs.declared.Answer.TheVariants.{Refused}
+use Rattle.ground.specs.Answers.{Answer}
 use Rattle.least_move.specs.Sheet.{label}
 use Rattle.least_move.specs.Moved.{MovedWants, sum_of_squares, sum_of_products}
 use Rattle.least_move.specs.Bench.{bench, P3, P4, placement, written}
@@ -56,7 +56,7 @@ module _ (f f' : Form) (w w' : Written) (a a' : Answer) (after after' : Written)
       (again ∙ first_so.places (label 0) (lit< tt)) (second_so.places (label 0) (lit< tt))
 
   -- one that refuses the revision
-  pub refuses_revision : {q : Refusal} → a' ≡ Refused q → ⊥
+  pub refuses_revision : {q : Refusal} → a' ≡ Err q → ⊥
   refuses_revision refused = not_both second_so.answered refused
 
   -- one that writes nothing, into buffers of zeros

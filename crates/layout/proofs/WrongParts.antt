@@ -1,5 +1,6 @@
 -- The wrong parts of document 01, "What is owed by each public entry", 3, and of document 02, Item 3: each breaks the
 -- promise of a layout call.
+use Rattle.std.specs.Prelude.{Err}
 use Prim.Native.Nat.{ℕ, ◌≤◌, ◌<◌}
 use mathlib.Core.Path.{◌≡◌, refl, sym, ◌∙◌, ap}
 use mathlib.Core.Logic.{◌≢◌}
@@ -17,14 +18,12 @@ use Rattle.least_move.specs.Sheet.{label}
 use Rattle.least_move.specs.Placement.{Placement}
 use Rattle.least_move.specs.Bench.{bench, placement, P1, P2, P5, P7, mixed}
 use Rattle.least_move.specs.Bench as bench
-use Rattle.ground.specs.declared.Answer.{Answer}
-use Rattle.ground.specs.declared.Answer.TheVariants.{Placed, Refused}
 use Rattle.sheet_checks.specs.Lent.{LentGaps, lists, records, Read, Written, label_count, place_of}
 use Rattle.layout.specs.Part.{filled_part}
 use Rattle.layout.specs.Promise.{Promise}
 use Rattle.layout.specs.BenchCalls.{Form, as_lists, as_records, lend, LentWith, EachCall, PlacedSo, RefusedSo}
-use Rattle.ground.specs.Answers.{refusal, ring_length_of}
-use Rattle.sheet_checks.specs.declared.Checked.TheVariants as checked
+use Rattle.ground.specs.Answers.{Answer, refusal, ring_length_of}
+use Rattle.ground.specs.Answers as answer
 use Rattle.sheet_checks.specs.Refusals.{offender_below, table_of, table}
 use Rattle.sheet_checks.proofs.Passed.{not_pass}
 use Rattle.layout.proofs.Facts.{not_both, placed_passes, refused_by_table}
@@ -104,11 +103,11 @@ module _ (f : Form) (part : Part) where
   P2-so keeps = P2-lays f (zeros P2.sheet) _ _ (P2-lent f) (kept f part keeps P2.sheet (zeros P2.sheet))
 
   -- one that refuses each sheet
-  pub refuses_each : ((r : Read) (w : Written) → InForm f r.gaps → (q : Refusal) × ((part r w).0 ≡ Refused q)) → ¬ (Keeps f part)
+  pub refuses_each : ((r : Read) (w : Written) → InForm f r.gaps → (q : Refusal) × ((part r w).0 ≡ Err q)) → ¬ (Keeps f part)
   refuses_each refuses keeps = not_both (P1-so keeps).answered (refuses (lend f P1.sheet) (zeros P1.sheet) (lent_so f P1.sheet)).1
 
   -- one that prints the same places for all sheets: P1 against P2
-  pub prints_the_same : (p : Placement) → ((r : Read) (w : Written) → InForm f r.gaps → (part r w).0 ≡ Placed → (i : Label) → i.0 < label_count r → place_of (part r w).1 i ≡ p i) → ¬ (Keeps f part)
+  pub prints_the_same : (p : Placement) → ((r : Read) (w : Written) → InForm f r.gaps → (part r w).0 ≡ answer.placed → (i : Label) → i.0 < label_count r → place_of (part r w).1 i ≡ p i) → ¬ (Keeps f part)
   prints_the_same p prints keeps =
       apart {q = placement P1 (label 0)} {r = placement P2 (label 0)} (λ e. omega arith)
       (sym (prints (lend f P1.sheet) (zeros P1.sheet) (lent_so f P1.sheet) (P1-so keeps).answered (label 0) (lit< tt)) ∙ (P1-so keeps).places (label 0) (lit< tt))
@@ -146,7 +145,7 @@ hands_out_again part f f' w w' l l' again keeps =
     ((P5-lays f' w' _ _ l' (kept f' (part ((lend f P1.sheet, w) ∷ [])) (keeps ((lend f P1.sheet, w) ∷ [])).1 P5.sheet w')).places (label 0) (lit< tt))
 
 -- a sheet that breaks a rule is called placed
-pub called_placed : {r : Read} {w after : Written} {q : Refusal} → table r w ≡ checked.Refused q → ¬ (Promise r w Placed after)
+pub called_placed : {r : Read} {w after : Written} {q : Refusal} → table r w ≡ Err q → ¬ (Promise r w answer.placed after)
 called_placed breaks promise = not_pass (sym breaks ∙ placed_passes promise refl)
 
 -- "in the text only" (document 02, Item 3): the sheet with weight 0 where the text's is blank

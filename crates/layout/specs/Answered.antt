@@ -1,11 +1,9 @@
 -- The answer to what the core comes to.
-use Rattle.core_project.specs.declared.Projected.{Projected}
-use Rattle.core_project.specs.declared.Projected.TheVariants as Found
-use Rattle.ground.specs.declared.Answer.{Answer}
-use Rattle.ground.specs.declared.Answer.TheVariants.{Placed}
-use Rattle.ground.specs.Answers.{refusal}
+use Rattle.std.specs.Prelude.{Result, Ok, Err}
+use Rattle.core_ring.specs.declared.RingSize.{RingSize}
+use Rattle.ground.specs.Answers.{Answer, placed, refusal}
 
 -- a ring is refusal 9, whose place is 0
-abbrev pub answer_of : Projected → Answer
-answer_of Found.Placed = Placed
-answer_of (Found.Ring size) = refusal 9 0 size
+abbrev pub answer_of : Result (Unit {0}) RingSize → Answer
+answer_of (Ok _) = placed
+answer_of (Err size) = refusal 9 0 size.0

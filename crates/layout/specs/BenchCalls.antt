@@ -3,12 +3,11 @@
 -- a promise" are shown by it in proofs/WrongParts, and those of Item 6 in proofs/WrongKinds.
 use Rattle.std.specs.Prelude.{◌<◌, ◌≡◌, false, length}
 use mathlib.Core.List.{List, map, Memᴰ}
-use Rattle.ground.specs.declared.Answer.{Answer}
-use Rattle.ground.specs.declared.Answer.TheVariants as answer
 use Rattle.ground.specs.declared.GapNumber.{GapNumber}
 use Rattle.ground.specs.declared.GapRecord.{GapRecord}
 use Rattle.ground.specs.declared.Label.{Label}
-use Rattle.ground.specs.Answers.{refusal}
+use Rattle.ground.specs.Answers.{Answer, refusal}
+use Rattle.ground.specs.Answers as answer
 use Rattle.ground.specs.Entries.{Each}
 use Rattle.least_move.specs.Bench.{WrittenGap, Source, given, worked_out, Placed, Refused, Case, placed, refused, moved, placement, multipliers}
 use Rattle.least_move.specs.Bench as bench
@@ -59,7 +58,7 @@ MultipliersSo c worked_out after = Unit {0}
 
 -- placed at these places
 pub record PlacedSo (c : Placed) (a : Answer) (after : Written) : Type 0 where
-  pub answered : a ≡ answer.Placed
+  pub answered : a ≡ answer.placed
   pub places : (i : Label) → i.0 < length c.sheet.wants → place_of after i ≡ placement c i
   pub multipliers_so : MultipliersSo c c.source after
 

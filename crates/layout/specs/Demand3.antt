@@ -3,11 +3,9 @@
 use Rattle.std.specs.Prelude.{◌≡◌, ◌↔◌}
 use Rattle.least_move.specs.Placement.{Placement, Feasible, LeastMove}
 use Rattle.least_move.specs.Moved.{LargestMove, SameNumbers}
-use Rattle.ground.specs.declared.Answer.{Answer}
-use Rattle.ground.specs.declared.Answer.TheVariants.{Placed}
+use Rattle.ground.specs.Answers.{Answer, placed}
 use Rattle.sheet_checks.specs.Lent.{Read, Written, sheet_of, place_of}
-use Rattle.sheet_checks.specs.declared.Checked.TheVariants.{Pass}
-use Rattle.sheet_checks.specs.Refusals.{table}
+use Rattle.sheet_checks.specs.Refusals.{pass, table}
 
 -- some placement meets all gaps of the sheet
 abbrev pub Placeable : Read → Type 0
@@ -17,14 +15,14 @@ Placeable r = (p : Placement) × Feasible (sheet_of r) p
 -- hold
 pub record Demand3 (r : Read) (w : Written) (a : Answer) (after : Written) (r' : Read) (w' : Written) (a' : Answer) (after' : Written) : Type 0 where
   -- where the table lets both pass, both are accepted or neither
-  pub both_or_neither : table r w ≡ Pass → table r' w' ≡ Pass → (a ≡ Placed) ↔ (a' ≡ Placed)
+  pub both_or_neither : table r w ≡ pass → table r' w' ≡ pass → (a ≡ placed) ↔ (a' ≡ placed)
   -- since each is accepted exactly if the table lets it pass and a placement meets all gaps
-  pub accepted : (a ≡ Placed) ↔ ((table r w ≡ Pass) × Placeable r)
-  pub accepted' : (a' ≡ Placed) ↔ ((table r' w' ≡ Pass) × Placeable r')
+  pub accepted : (a ≡ placed) ↔ ((table r w ≡ pass) × Placeable r)
+  pub accepted' : (a' ≡ placed) ↔ ((table r' w' ≡ pass) × Placeable r')
   -- the places are the least moves of demand 2
-  pub least : a ≡ Placed → LeastMove (sheet_of r) (place_of after)
-  pub least' : a' ≡ Placed → LeastMove (sheet_of r') (place_of after')
+  pub least : a ≡ placed → LeastMove (sheet_of r) (place_of after)
+  pub least' : a' ≡ placed → LeastMove (sheet_of r') (place_of after')
   -- no place moves by more than a distance if no want does
-  pub largest_move : a ≡ Placed → a' ≡ Placed → LargestMove (sheet_of r) (sheet_of r') (place_of after) (place_of after')
+  pub largest_move : a ≡ placed → a' ≡ placed → LargestMove (sheet_of r) (sheet_of r') (place_of after) (place_of after')
   -- at distance zero every place is the same numerator over the same denominator
-  pub same_numbers : a ≡ Placed → a' ≡ Placed → SameNumbers (sheet_of r) (sheet_of r') (place_of after) (place_of after')
+  pub same_numbers : a ≡ placed → a' ≡ placed → SameNumbers (sheet_of r) (sheet_of r') (place_of after) (place_of after')

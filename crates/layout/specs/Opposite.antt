@@ -1,21 +1,19 @@
 -- Exact gaps against the two opposite gaps that they replace (document 02, Item 6), of two layout calls, each lent its gaps
 -- in either form.
 use Rattle.std.specs.Prelude.{ℕ, ◌<◌, ◌≡◌, ◌⊎◌, Bool, List, map, ℤ}
-use Rattle.ground.specs.declared.Answer.{Answer}
-use Rattle.ground.specs.declared.Answer.TheVariants.{Placed}
 use Rattle.ground.specs.declared.GapRecord.{GapRecord}
-use Rattle.ground.specs.Answers.{refusal, ring_length_of}
+use Rattle.ground.specs.Answers.{Answer, refusal, ring_length_of}
+use Rattle.ground.specs.Answers as answer
 use Rattle.ground.specs.Entries.{int}
 use Rattle.least_move.specs.Opposite.{Replaced, opposed}
 use Rattle.sheet_checks.specs.Lent.{Read, Written, records, label_count, gap_of, sheet_of}
-use Rattle.sheet_checks.specs.declared.Checked.TheVariants.{Pass}
-use Rattle.sheet_checks.specs.Refusals.{table}
+use Rattle.sheet_checks.specs.Refusals.{pass, table}
 use Rattle.layout.specs.Promise.{Promise}
 
 -- "the same places": both are placed, and the numbers written are the same
 pub record BothPlaced (labels : ℕ) (a : Answer) (after : Written) (a' : Answer) (after' : Written) : Type 0 where
-  pub placed : a ≡ Placed
-  pub placed' : a' ≡ Placed
+  pub placed : a ≡ answer.placed
+  pub placed' : a' ≡ answer.placed
   pub nums : (k : ℕ) → k < labels → int after.place_num k ≡ int after'.place_num k
   pub dens : (k : ℕ) → k < labels → int after.place_den k ≡ int after'.place_den k
 
@@ -30,7 +28,7 @@ pub record BothNine (a a' : Answer) : Type 0 where
 abbrev pub OppositeSame : Type 0
 OppositeSame =
     (r : Read) (w : Written) (a : Answer) (after : Written) (r' : Read) (w' : Written) (a' : Answer) (after' : Written)
-    → Promise r w a after → Promise r' w' a' after' → Replaced (sheet_of r) (sheet_of r') → table r w ≡ Pass → table r' w' ≡ Pass
+    → Promise r w a after → Promise r' w' a' after' → Replaced (sheet_of r) (sheet_of r') → table r w ≡ pass → table r' w' ≡ pass
     → BothPlaced (label_count r) a after a' after' ⊎ BothNine a a'
 
 -- such sheets as they are lent: the second list of records has, in the place of each exact gap of the first whose number is

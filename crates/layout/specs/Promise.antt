@@ -1,10 +1,8 @@
 -- What a layout call owes: its number, its place and every lent entry afterwards (document 01,
 -- "What a station lends", "Refusal table", "What is owed by each public entry"; document 02, Item 6).
-use Rattle.std.specs.Prelude.{ℕ, suc, ◌*◌, ◌≤◌, ◌<◌, ◌≡◌, ◌⊎◌, Bool, List, ◌∷◌, eqb, length, get_or, take, nat_abs}
+use Rattle.std.specs.Prelude.{ℕ, suc, ◌*◌, ◌≤◌, ◌<◌, ◌≡◌, ◌⊎◌, Bool, List, ◌∷◌, eqb, length, get_or, take, nat_abs, Ok, Err}
 use Rattle.exact.specs.Fraction.{LowestTerms}
 use Rattle.ground.specs.Limits.{place_den_most, place_most}
-use Rattle.ground.specs.declared.Answer.{Answer}
-use Rattle.ground.specs.declared.Answer.TheVariants.{Placed}
 use Rattle.ground.specs.declared.Label.{Label}
 use Rattle.ground.specs.declared.GapNumber.{GapNumber}
 use Rattle.least_move.specs.Sheet.{Sheet}
@@ -12,12 +10,10 @@ use Rattle.least_move.specs.Placement.{Placement, Feasible, LeastMove}
 use Rattle.least_move.specs.Multipliers.{Conditions}
 use Rattle.least_move.specs.Marks.{Marks, Step}
 use Rattle.least_move.specs.Ring.{Ring, steps_of}
-use Rattle.sheet_checks.specs.declared.Checked.{Checked}
-use Rattle.sheet_checks.specs.declared.Checked.TheVariants as checked
 use Rattle.sheet_checks.specs.Lent.{Read, Written, sheet_of, place_of, multiplier_of}
-use Rattle.sheet_checks.specs.Refusals.{number_of, refused_place, table}
+use Rattle.sheet_checks.specs.Refusals.{table}
 use Rattle.ground.specs.Entries.{nat, Filled}
-use Rattle.ground.specs.Answers.{ring_length_of, refusal}
+use Rattle.ground.specs.Answers.{Answer, placed, ring_length_of, refusal}
 
 -- the carried byte of a gap: "1 for marked gaps, else 0"
 abbrev pub byte_at : Written → GapNumber → ℕ
@@ -75,14 +71,13 @@ pub record RingGiven (s : Sheet) (w after : Written) (size : ℕ) : Type 0 where
 -- a sheet that the table lets pass is placed, or refused with 9 and place 0 because no placement meets all gaps
 abbrev pub Judged : Sheet → Written → Answer → Written → Type 0
 Judged s w a after =
-    ((a ≡ Placed) × Accepted s w after)
+    ((a ≡ placed) × Accepted s w after)
     ⊎ ((a ≡ refusal 9 0 (ring_length_of a)) × ((p : Placement) → ¬ (Feasible s p)) × RingGiven s w after (ring_length_of a))
 
 -- what the table refuses has the check's number and place, and no ring: "A refused call writes nothing"
-abbrev pub ByTable : Checked → Sheet → Written → Answer → Written → Type 0
-ByTable (checked.Refused q) s w a after =
-    (a ≡ refusal (number_of (checked.Refused q)) (refused_place (checked.Refused q)) 0) × (after ≡ w)
-ByTable checked.Pass s w a after = Judged s w a after
+abbrev pub ByTable : Answer → Sheet → Written → Answer → Written → Type 0
+ByTable (Err q) s w a after = (a ≡ refusal q.number q.place 0) × (after ≡ w)
+ByTable (Ok _) s w a after = Judged s w a after
 
 -- the whole promise of a layout call
 pub record Promise (r : Read) (w : Written) (a : Answer) (after : Written) : Type 0 where

@@ -1,7 +1,6 @@
 -- What is promised of two layout calls (document 01, "What a station lends"; document 02, Item 7).
 use Rattle.std.specs.Prelude.{◌≡◌}
-use Rattle.ground.specs.declared.Answer.{Answer}
-use Rattle.ground.specs.declared.Answer.TheVariants.{Placed}
+use Rattle.ground.specs.Answers.{Answer, placed}
 use Rattle.least_move.specs.Moved.{SameButWants, MovedWants}
 use Rattle.sheet_checks.specs.Lent.{Read, Written, sheet_of, place_of}
 use Rattle.layout.specs.Promise.{Promise}
@@ -14,7 +13,7 @@ pub record BothPromised (r : Read) (w : Written) (a : Answer) (after : Written) 
   pub first : Promise r w a after
   pub second : Promise r' w' a' after'
   pub demand_3 : SameButWants (sheet_of r) (sheet_of r') → Demand3 r w a after r' w' a' after'
-  pub moved_wants : SameButWants (sheet_of r) (sheet_of r') → a ≡ Placed → a' ≡ Placed →
+  pub moved_wants : SameButWants (sheet_of r) (sheet_of r') → a ≡ placed → a' ≡ placed →
       MovedWants (sheet_of r) (sheet_of r') (place_of after) (place_of after')
 
 -- It is so of any two calls that keep their promises (`any_two_calls` in proofs/TwoCalls). Each is lent its gaps as lists or

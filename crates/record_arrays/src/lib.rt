@@ -1,11 +1,12 @@
 #![tactic(auto)]
 // The calls that are lent records, for a caller that has the records in an array.
-// Each of these lends the front of its array and does nothing else.
+// Each of these lends the front of its array and does nothing else. What is written is lent one by one, as to `layout::lists::lay_out`.
 ghost use Rattle.sheet_checks.specs.Lent.{room_lent, sheet_lent};
 ghost use Rattle.layout.specs.Promise.{Promise};
 ghost use Rattle.layout.specs.TwoCalls.{BothPromised};
 ghost use Rattle.record_arrays.specs.Arrays.{array_lent};
 
+use ground::lists::Lists;
 use ground::{Answer, GapRecord};
 use records::lay_out_records;
 use two_calls::{Both, lay_out_both};
@@ -28,12 +29,12 @@ pub fn lay_out_array(
     back: &mut [u8],
 ) -> Answer
     ensures { let room = room_lent carried place_num place_den mult_num mult_den ring back in
-        Promise (array_lent wanted weight gaps count) room.entry result room.exit }
+        Promise (array_lent wanted.now weight.now gaps count) room.entry result room.exit }
 {
     lay_out_records(
         wanted,
         weight,
-        &gaps[..count as usize],
+        &gaps[..usize::from(count)],
         carried,
         place_num,
         place_den,
@@ -46,12 +47,7 @@ pub fn lay_out_array(
 
 // Lays out two sheets: the gaps of the first are lists, those of the second the first `count` records of an array.
 pub fn lay_out_both_array(
-    wanted: &[i64],
-    weight: &[i64],
-    left: &[usize],
-    right: &[usize],
-    distance: &[i64],
-    kind: &[u8],
+    lists: Lists,
     carried: &mut [u8],
     place_num: &mut [i64],
     place_den: &mut [i64],
@@ -71,20 +67,15 @@ pub fn lay_out_both_array(
     second_ring: &mut [usize],
     second_back: &mut [u8],
 ) -> Both
-    ensures { let sheet = sheet_lent wanted weight left right distance kind in
+    ensures { let sheet = sheet_lent lists in
         let room = room_lent carried place_num place_den mult_num mult_den ring back in
-        let secondSheet = array_lent second_wanted second_weight gaps count in
+        let secondSheet = array_lent second_wanted.now second_weight.now gaps count in
         let secondRoom = room_lent second_carried second_place_num second_place_den second_mult_num second_mult_den second_ring second_back in
         BothPromised sheet room.entry result.first room.exit secondSheet secondRoom.entry result.second
         secondRoom.exit }
 {
     lay_out_both(
-        wanted,
-        weight,
-        left,
-        right,
-        distance,
-        kind,
+        lists,
         carried,
         place_num,
         place_den,
@@ -94,7 +85,7 @@ pub fn lay_out_both_array(
         back,
         second_wanted,
         second_weight,
-        &gaps[..count as usize],
+        &gaps[..usize::from(count)],
         second_carried,
         second_place_num,
         second_place_den,

@@ -1,25 +1,8 @@
 -- A room by value as what a call is lent to write (document 01, "What a station lends").
 use Rattle.std.specs.Prelude.{ℕ, List, take, replicate, ℤ}
 use Rattle.ground.specs.Limits.{labels_most, gaps_most}
-use Rattle.ground.specs.declared.Answer.{Answer}
 use Rattle.rooms.specs.declared.Room.{Room}
-use Rattle.rooms.specs.declared.Laid.{Laid}
 use Rattle.sheet_checks.specs.Lent.{Written}
-
--- an answer beside what was lent "to write" and "the carried record"
-abbrev pub laid_of : Answer → (place_num place_den mult_num mult_den : List ℤ) (ring back carried : List ℕ) → Laid
-laid_of answer place_num place_den mult_num mult_den ring back carried = record {
-  answer = answer;
-  room = record {
-    place_num = place_num;
-    place_den = place_den;
-    mult_num = mult_num;
-    mult_den = mult_den;
-    ring = ring;
-    back = back;
-    carried = carried;
-  };
-}
 
 -- "the carried record, one byte per gap": the first so many
 abbrev pub written : ℕ → Room → Written
@@ -36,6 +19,18 @@ written gaps room = record {
 -- buffers that hold one number, the ring buffers zeros, beside a carried record
 abbrev pub filled : ℤ → List ℕ → Written
 filled fill carried = record {
+  place_num = replicate labels_most fill;
+  place_den = replicate labels_most fill;
+  mult_num = replicate gaps_most fill;
+  mult_den = replicate gaps_most fill;
+  ring = replicate labels_most 0;
+  back = replicate labels_most 0;
+  carried = carried;
+}
+
+-- the room that they make
+abbrev pub room_of : ℤ → List ℕ → Room
+room_of fill carried = record {
   place_num = replicate labels_most fill;
   place_den = replicate labels_most fill;
   mult_num = replicate gaps_most fill;

@@ -5,10 +5,11 @@ ghost use Rattle.sheet_checks.specs.Lent.{sheet_lent};
 ghost use Rattle.layout.specs.Promise.{Promise};
 ghost use Rattle.layout.specs.TwoCalls.{BothPromised};
 ghost use Rattle.record_arrays.specs.Arrays.{array_lent};
-ghost use Rattle.rooms.specs.Rooms.{filled, written, laid_of};
+ghost use Rattle.rooms.specs.Rooms.{filled, room_of, written};
 ghost use Rattle.ground.specs.Entries.{Filled};
 
 use ground::limits::{GAPS, GapInts, LABELS, LabelBytes, LabelIndices, LabelInts};
+use ground::lists::Lists;
 use ground::{Answer, GapRecord};
 use record_arrays::{RECORDS, lay_out_array, lay_out_both_array};
 
@@ -16,7 +17,7 @@ use record_arrays::{RECORDS, lay_out_array, lay_out_both_array};
 pub type RecordBytes = [u8; RECORDS];
 
 // What a call writes, and the carried record.
-#[derive(Clone, Copy)]
+#[derive(Clone, Copy, Debug, PartialEq, Eq)]
 pub struct Room {
     pub place_num: LabelInts,
     pub place_den: LabelInts,
@@ -28,42 +29,33 @@ pub struct Room {
 }
 
 // What a call answers and leaves.
-#[derive(Clone, Copy)]
+#[derive(Clone, Copy, Debug, PartialEq, Eq)]
 pub struct Laid {
     pub answer: Answer,
     pub room: Room,
 }
 
 // The same of two calls: one is lent lists, the other records.
-#[derive(Clone, Copy)]
+#[derive(Clone, Copy, Debug, PartialEq, Eq)]
 pub struct Pair {
     pub lists: Laid,
     pub records: Laid,
 }
 
-impl Laid {
-    fn new(
-        answer: Answer,
-        place_num: LabelInts,
-        place_den: LabelInts,
-        mult_num: GapInts,
-        mult_den: GapInts,
-        ring: LabelIndices,
-        back: LabelBytes,
-        carried: RecordBytes,
-    ) -> Self
-        ensures { result ≡ laid_of answer place_num place_den mult_num mult_den ring back carried }
+impl Room {
+    // Buffers that hold one number, the ring buffers zeros, beside a carried record.
+    fn filled(fill: i64, carried: RecordBytes) -> Self
+        ensures { result ≡ room_of fill carried }
     {
-        let room = Room {
-            place_num,
-            place_den,
-            mult_num,
-            mult_den,
-            ring,
-            back,
+        Self {
+            place_num: [fill; LABELS],
+            place_den: [fill; LABELS],
+            mult_num: [fill; GAPS],
+            mult_den: [fill; GAPS],
+            ring: [0; LABELS],
+            back: [0; LABELS],
             carried,
-        };
-        Self { answer, room }
+        }
     }
 }
 
@@ -76,30 +68,27 @@ pub fn lay_out_room(
     gaps: [GapRecord; RECORDS],
     count: u8,
 ) -> Laid
-    ensures { let sheet = array_lent wanted weight gaps count in
+    ensures { let sheet = array_lent wanted.now weight.now gaps count in
         Promise sheet (filled fill (take count carried)) result.answer (written count result.room)
         × Filled count carried result.room.carried }
 {
-    let mut num = [fill; LABELS];
-    let mut den = [fill; LABELS];
-    let mut mult_num = [fill; GAPS];
-    let mut mult_den = [fill; GAPS];
-    let mut ring = [0usize; LABELS];
-    let mut back = [0u8; LABELS];
+    // the bytes are lent from here and not from the room: of a slice of a field's front the check keeps no equation (tried)
+    let mut room = Room::filled(fill, carried);
     let answer = lay_out_array(
         wanted,
         weight,
         gaps,
         count,
-        &mut carried[..count as usize],
-        &mut num,
-        &mut den,
-        &mut mult_num,
-        &mut mult_den,
-        &mut ring,
-        &mut back,
+        &mut carried[..usize::from(count)],
+        &mut room.place_num,
+        &mut room.place_den,
+        &mut room.mult_num,
+        &mut room.mult_den,
+        &mut room.ring,
+        &mut room.back,
     );
-    Laid::new(answer, num, den, mult_num, mult_den, ring, back, carried)
+    room.carried = carried;
+    Laid { answer, room }
 }
 
 // Lays out a sheet twice: its gaps are lent as lists, and as the first `count` records of an array. Both carried records
@@ -108,65 +97,49 @@ pub fn lay_out_rooms(
     fill: i64,
     mut carried: RecordBytes,
     mut carried2: RecordBytes,
-    wanted: &[i64],
-    weight: &[i64],
-    left: &[usize],
-    right: &[usize],
-    distance: &[i64],
-    kind: &[u8],
+    lists: Lists,
     gaps: [GapRecord; RECORDS],
     count: u8,
 ) -> Pair
-    ensures { let sheet = sheet_lent wanted weight left right distance kind in
-        let second = array_lent wanted weight gaps count in
+    ensures { let sheet = sheet_lent lists in
+        let second = array_lent lists.entry.wanted.now lists.entry.weight.now gaps count in
         BothPromised sheet (filled fill (take count carried)) result.lists.answer (written count result.lists.room)
         second (filled fill (take count carried2)) result.records.answer (written count result.records.room)
         × Filled count carried result.lists.room.carried
         × Filled count carried2 result.records.room.carried }
 {
-    let mut num = [fill; LABELS];
-    let mut den = [fill; LABELS];
-    let mut mult_num = [fill; GAPS];
-    let mut mult_den = [fill; GAPS];
-    let mut ring = [0usize; LABELS];
-    let mut back = [0u8; LABELS];
-    let mut num2 = [fill; LABELS];
-    let mut den2 = [fill; LABELS];
-    let mut mult_num2 = [fill; GAPS];
-    let mut mult_den2 = [fill; GAPS];
-    let mut ring2 = [0usize; LABELS];
-    let mut back2 = [0u8; LABELS];
-    let both = lay_out_both_array(
-        wanted,
-        weight,
-        left,
-        right,
-        distance,
-        kind,
-        &mut carried[..count as usize],
-        &mut num,
-        &mut den,
-        &mut mult_num,
-        &mut mult_den,
-        &mut ring,
-        &mut back,
-        wanted,
-        weight,
+    let mut first = Room::filled(fill, carried);
+    let mut second = Room::filled(fill, carried2);
+    let answers = lay_out_both_array(
+        lists,
+        &mut carried[..usize::from(count)],
+        &mut first.place_num,
+        &mut first.place_den,
+        &mut first.mult_num,
+        &mut first.mult_den,
+        &mut first.ring,
+        &mut first.back,
+        lists.wanted,
+        lists.weight,
         gaps,
         count,
-        &mut carried2[..count as usize],
-        &mut num2,
-        &mut den2,
-        &mut mult_num2,
-        &mut mult_den2,
-        &mut ring2,
-        &mut back2,
+        &mut carried2[..usize::from(count)],
+        &mut second.place_num,
+        &mut second.place_den,
+        &mut second.mult_num,
+        &mut second.mult_den,
+        &mut second.ring,
+        &mut second.back,
     );
-    let first = both.first;
-    let second = both.second;
-    let lists = Laid::new(first, num, den, mult_num, mult_den, ring, back, carried);
-    let records = Laid::new(
-        second, num2, den2, mult_num2, mult_den2, ring2, back2, carried2,
-    );
+    first.carried = carried;
+    second.carried = carried2;
+    let lists = Laid {
+        answer: answers.first,
+        room: first,
+    };
+    let records = Laid {
+        answer: answers.second,
+        room: second,
+    };
     Pair { lists, records }
 }

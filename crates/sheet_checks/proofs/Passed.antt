@@ -3,6 +3,7 @@ use Prim.Native.Nat.{ℕ, zero, suc, ◌≤◌, ◌<◌}
 use mathlib.Core.Path.{◌≡◌, refl, ap₂}
 use mathlib.Core.Logic.{◌≢◌, ⊎_elim}
 use mathlib.Core.Bool.{Bool, true, false, cond, not, ◌&&◌, ◌||◌}
+use Rattle.std.specs.Prelude.{Ok, Err}
 use mathlib.Core.List.{List, [], ◌∷◌, ◌++◌, map}
 use native.Mathlib.Omega.{arith}
 use lib.Dec.{eqb, ltb}
@@ -14,50 +15,49 @@ use Rattle.algebra.proofs.Sum.{last_or_below}
 use Rattle.algebra.proofs.Whole.{parts_lt}
 use Rattle.least_move.specs.Sheet.{Proper, ignored, kind_of}
 use Rattle.ground.specs.declared.Refusal.{Refusal}
+use Rattle.ground.specs.Answers.{Answer}
 use Rattle.ground.specs.Entries.{Each}
 use Rattle.ground.specs.Kinds.{at_least_byte, exactly_byte}
 use Rattle.ground.specs.Limits.{gaps_most, labels_most, weight_least, weight_most}
-use Rattle.sheet_checks.specs.declared.Checked.{Checked}
-use Rattle.sheet_checks.specs.declared.Checked.TheVariants.{Pass, Refused}
 use Rattle.sheet_checks.specs.Lent.{Read, Written, label_count, gap_count, record_at, sheet_of}
-use Rattle.sheet_checks.specs.Refusals.{Row, refuse, first_refusal, in_turn, test, offender_below, offender, size_tests, table_of, unequal, outside}
+use Rattle.sheet_checks.specs.Refusals.{Row, pass, refuse, first_refusal, in_turn, test, offender_below, offender, size_tests, table_of, unequal, outside}
 use Rattle.sheet_checks.specs.Refusals.{neither, room_of, ragged, short, off_plate, bad_weight, stranger, bad_gap, bad_kind, rows, table}
 
 -- a refusal is no pass
-pub not_pass : {q : Refusal} → Refused q ≡ Pass → ⊥
+pub not_pass : {q : Refusal} → Err q ≡ pass → ⊥
 not_pass e = let z : ◌≡◌ {A = ℕ} 0 1 = cc in omega arith
 
 -- a test that passed was false
-pub test_pass : (number : ℕ) (bad : Bool) → test number bad ≡ Pass → bad ≡ false
+pub test_pass : (number : ℕ) (bad : Bool) → test number bad ≡ pass → bad ≡ false
 test_pass number true e = absurd (not_pass e)
 test_pass number false e = refl
 
 -- of two checks that passed each did
-pub first_pass : (c later : Checked) → first_refusal c later ≡ Pass → (c ≡ Pass) × (later ≡ Pass)
-first_pass Pass later e = (refl, e)
-first_pass (Refused q) later e = absurd (not_pass e)
+pub first_pass : (c later : Answer) → first_refusal c later ≡ pass → (c ≡ pass) × (later ≡ pass)
+first_pass (Ok _) later e = (refl, e)
+first_pass (Err q) later e = absurd (not_pass e)
 
 -- and so of all
-pub turn_pass : (cs : List Checked) → in_turn cs ≡ Pass → Each (λ c. c ≡ Pass) cs
+pub turn_pass : (cs : List Answer) → in_turn cs ≡ pass → Each (λ c. c ≡ pass) cs
 turn_pass [] e = tt
 turn_pass (c ∷ cs) e = let both = first_pass c (in_turn cs) e in (both.0, turn_pass cs both.1)
 
 -- a row that passed: none of its entries is bad
-pub offender_pass : (row : Row) → offender row ≡ Pass → (k : ℕ) → k < row.count → row.bad k ≡ false
+pub offender_pass : (row : Row) → offender row ≡ pass → (k : ℕ) → k < row.count → row.bad k ≡ false
 unfolding offender_below
 offender_pass row e = go row.count e
   where
-    last : (n : ℕ) → cond (row.bad n) (refuse row.number n) Pass ≡ Pass → row.bad n ≡ false
+    last : (n : ℕ) → cond (row.bad n) (refuse row.number n) pass ≡ pass → row.bad n ≡ false
     last n = at (row.bad n)
       where
-        at : (b : Bool) → cond b (refuse row.number n) Pass ≡ Pass → b ≡ false
+        at : (b : Bool) → cond b (refuse row.number n) pass ≡ pass → b ≡ false
         at true f = absurd (not_pass f)
         at false f = refl
 
-    go : (n : ℕ) → offender_below row.number n row.bad ≡ Pass → (k : ℕ) → k < n → row.bad k ≡ false
+    go : (n : ℕ) → offender_below row.number n row.bad ≡ pass → (k : ℕ) → k < n → row.bad k ≡ false
     go zero f k h = absurd (omega arith)
     go (suc n) f k h =
-        let both = first_pass (offender_below row.number n row.bad) (cond (row.bad n) (refuse row.number n) Pass) f in
+        let both = first_pass (offender_below row.number n row.bad) (cond (row.bad n) (refuse row.number n) pass) f in
         ⊎_elim (λ same. rw same (last n both.1)) (λ below. go n both.0 k below) (last_or_below k n h)
 
 -- rows whose entries are bad alike find the same
@@ -65,7 +65,7 @@ pub offender_same : (number : ℕ) (bad bad' : ℕ → Bool) (n : ℕ) → ((k :
 unfolding offender_below
 offender_same number bad bad' zero same = refl
 offender_same number bad bad' (suc n) same =
-    ap₂ (λ (c : Checked) (b : Bool). first_refusal c (cond b (refuse number n) Pass)) (offender_same number bad bad' n (λ k h. same k (omega arith))) (same n (omega arith))
+    ap₂ (λ (c : Answer) (b : Bool). first_refusal c (cond b (refuse number n) pass)) (offender_same number bad bad' n (λ k h. same k (omega arith))) (same n (omega arith))
 
 pub or_clear : (a b : Bool) → (a || b) ≡ false → (a ≡ false) × (b ≡ false)
 or_clear true b e = absurd (let z : ◌≡◌ {A = ℕ} 0 1 = cc in omega arith)
@@ -86,7 +86,7 @@ pub record Passed (r : Read) (w : Written) : Type 0 where
   pub measured : (k : ℕ) → k < gap_count r → (bad_gap r).bad k ≡ false
   pub kinded : (k : ℕ) → k < gap_count r → (bad_kind r).bad k ≡ false
 
-pub table_passed : (r : Read) (w : Written) → table r w ≡ Pass → Passed r w
+pub table_passed : (r : Read) (w : Written) → table r w ≡ pass → Passed r w
 unfolding table_of
 table_passed r w e =
     let c = turn_pass (size_tests (label_count r) (gap_count r) (ragged r (length w.carried)) (short (label_count r) (gap_count r) (room_of w)) ++ map offender (rows r)) e in
@@ -130,7 +130,7 @@ asks (suc zero) e is = let z : ◌≡◌ {A = ℕ} 0 1 = cc in omega arith
 asks (suc (suc kind)) e is = omega (arith, kind_known (suc (suc kind)) e)
 
 -- checks 6 and 7 passed: the sheet is proper
-pub passed_proper : (r : Read) (w : Written) → table r w ≡ Pass → Proper (sheet_of r)
+pub passed_proper : (r : Read) (w : Written) → table r w ≡ pass → Proper (sheet_of r)
 unfolding sheet_of
 passed_proper r w e =
     let passed : Passed r w = table_passed r w e in

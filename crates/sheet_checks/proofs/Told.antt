@@ -2,28 +2,27 @@
 use Prim.Native.Nat.{ℕ, zero, suc, ◌<◌}
 use mathlib.Core.Path.{◌≡◌, refl, subst}
 use mathlib.Core.Bool.{Bool, true, false, cond}
+use Rattle.std.specs.Prelude.{Ok, Err}
 use mathlib.Core.List.{List, [], ◌∷◌, map}
 use native.Mathlib.Omega.{arith}
 use lib.Dec.{ltb}
 use Rattle.ground.specs.declared.Refusal.{Refusal}
-use Rattle.ground.specs.Answers.{refused_at}
+use Rattle.ground.specs.Answers.{Answer, refused_at}
 use Rattle.ground.specs.Entries.{Each}
 use Rattle.ground.specs.Limits.{gaps_most, labels_most}
-use Rattle.sheet_checks.specs.declared.Checked.{Checked}
-use Rattle.sheet_checks.specs.declared.Checked.TheVariants.{Pass, Refused}
-use Rattle.sheet_checks.specs.Refusals.{Row, refuse, first_refusal, in_turn, test, offender_below, offender, table_of}
+use Rattle.sheet_checks.specs.Refusals.{Row, pass, refuse, first_refusal, in_turn, test, offender_below, offender, table_of}
 
 module _ (P : Refusal → Type 0) where
   -- it holds of what a check refuses, if it refuses
-  abbrev pub Told : Checked → Type 0
-  Told Pass = Unit {0}
-  Told (Refused q) = P q
+  abbrev pub Told : Answer → Type 0
+  Told (Ok _) = Unit {0}
+  Told (Err q) = P q
 
-  first_told : (c later : Checked) → Told c → Told later → Told (first_refusal c later)
-  first_told Pass later a b = b
-  first_told (Refused q) later a b = a
+  first_told : (c later : Answer) → Told c → Told later → Told (first_refusal c later)
+  first_told (Ok _) later a b = b
+  first_told (Err q) later a b = a
 
-  met_told : (number place : ℕ) → P (refused_at number place) → (bad : Bool) → Told (cond bad (refuse number place) Pass)
+  met_told : (number place : ℕ) → P (refused_at number place) → (bad : Bool) → Told (cond bad (refuse number place) pass)
   met_told number place h true = h
   met_told number place h false = tt
 
@@ -31,7 +30,7 @@ module _ (P : Refusal → Type 0) where
   unfolding offender_below
   offender_told number bad zero h = tt
   offender_told number bad (suc n) h =
-      first_told (offender_below number n bad) (cond (bad n) (refuse number n) Pass) (offender_told number bad n (λ k l. h k (omega arith)))
+      first_told (offender_below number n bad) (cond (bad n) (refuse number n) pass) (offender_told number bad n (λ k l. h k (omega arith)))
       (met_told number n (h n (omega arith)) (bad n))
 
   -- it holds of a row's number with each of its places
@@ -54,7 +53,7 @@ module _ (P : Refusal → Type 0) where
       (first_told (test 4 short) (in_turn (map offender list)) (met_told 4 0 sizes.3 short) (rows_told list rows))))
 
 -- no check tells a ring
-pub table_ringless : (labels gaps : ℕ) (ragged short : Bool) (list : List Row) {q : Refusal} → table_of labels gaps ragged short list ≡ Refused q → q.ring ≡ 0
+pub table_ringless : (labels gaps : ℕ) (ragged short : Bool) (list : List Row) {q : Refusal} → table_of labels gaps ragged short list ≡ Err q → q.ring ≡ 0
 table_ringless labels gaps ragged short list e =
     subst (Told (λ q. q.ring ≡ 0)) e (table_told (λ q. q.ring ≡ 0) labels gaps ragged short list (refl, refl, refl, refl) (each list))
   where

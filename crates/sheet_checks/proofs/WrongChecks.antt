@@ -9,8 +9,7 @@ use lib.IntN.{ℤ, pos, neg_ℤ}
 use Rattle.ground.specs.Limits.{distance_most, wanted_most, weight_most}
 use Rattle.ground.specs.Entries.{no_record}
 use Rattle.sheet_checks.specs.Lent.{LentGaps, Read, Written, lists, records}
-use Rattle.sheet_checks.specs.Refusals.{refuse, offender_below, table_of, table}
-use Rattle.sheet_checks.specs.declared.Checked.TheVariants.{Pass}
+use Rattle.sheet_checks.specs.Refusals.{pass, refuse, offender_below, table_of, table}
 
 -- ---- sheets, and what is lent to write
 
@@ -50,7 +49,7 @@ abbrev weights : List ℤ
 weights = pos 1 ∷ pos 1 ∷ []
 
 -- and a gap between them
-right_sheet : table (lent wants weights (0 ∷ []) (1 ∷ []) (pos 10 ∷ [])) (room 2 1 2) ≡ Pass
+right_sheet : table (lent wants weights (0 ∷ []) (1 ∷ []) (pos 10 ∷ [])) (room 2 1 2) ≡ pass
 unfolding table_of offender_below
 right_sheet = refl
 
@@ -104,7 +103,7 @@ unfolding table_of offender_below
 gap_low = refl
 
 -- an exact gap passes, and a kind that is neither does not, in either form of lending
-exact_passes : table (joined wants weights (0 ∷ []) (1 ∷ []) (pos 10 ∷ []) (1 ∷ [])) (room 2 1 2) ≡ Pass
+exact_passes : table (joined wants weights (0 ∷ []) (1 ∷ []) (pos 10 ∷ []) (1 ∷ [])) (room 2 1 2) ≡ pass
 unfolding table_of offender_below
 exact_passes = refl
 

@@ -1,27 +1,22 @@
 -- What the checks' private functions promise to each other, over the definitions of Refusals.
-use Rattle.std.specs.Prelude.{◌≡◌, List, map, ℕ, length, ℤ}
-use Rattle.sheet_checks.specs.declared.Checked.{Checked}
+use Rattle.std.specs.Prelude.{◌≡◌, ℕ, Option, Some, None, length, map}
+use Rattle.ground.specs.Answers.{Answer}
+use Rattle.ground.specs.declared.lists.Lists.{Lists}
 use Rattle.sheet_checks.specs.Lent.{Read}
-use Rattle.sheet_checks.specs.Refusals.{Row, in_turn, offender, range_row, stranger_row, kind_row, rows}
-use Rattle.ground.specs.Entries.{nat, int}
+use Rattle.sheet_checks.specs.Refusals.{pass, refuse, in_turn, offender, rows}
 
--- the rows of lists
-abbrev pub list_in_range : List ℤ → (least most : ℤ) → ℕ → Row
-list_in_range list least most number = range_row number (length list) least most (int list)
-
-abbrev pub lists_of_labels : ℕ → (left right : List ℕ) → Row
-lists_of_labels labels left right = stranger_row labels (length left) (nat left) (nat right)
-
-abbrev pub list_of_kinds : List ℕ → Row
-list_of_kinds kind = kind_row (length kind) (nat kind)
+-- the answer to what a search for an offender found
+abbrev pub told : ℕ → Option ℕ → Answer
+told number (Some place) = refuse number place
+told number None = pass
 
 -- lists that belong together have the same length
-pub record Even (wanted weight : List ℤ) (left right : List ℕ) (distance : List ℤ) (kind : List ℕ) : Type 0 where
-  pub weights : length weight ≡ length wanted
-  pub rights : length right ≡ length left
-  pub distances : length distance ≡ length left
-  pub kinds : length kind ≡ length left
+pub record Even (lists : Lists) : Type 0 where
+  pub weights : length lists.weight.now ≡ length lists.wanted.now
+  pub rights : length lists.right.now ≡ length lists.left.now
+  pub distances : length lists.distance.now ≡ length lists.left.now
+  pub kinds : length lists.kind.now ≡ length lists.left.now
 
 -- 5 to 8, and 23
-abbrev pub contents_of : Read → Checked
+abbrev pub contents_of : Read → Answer
 contents_of r = in_turn (map offender (rows r))

@@ -1,8 +1,9 @@
 -- What a station lends (document 01; document 02, Item 6), and the sheet that it tells.
 use Rattle.std.specs.Prelude.{ℕ, List, length, get_or, ℤ}
-use Rattle.std.specs.Borrow.{Bor, MutBor}
+use Rattle.std.specs.Borrow.{MutBor}
 use denote.Triple.Both.{Both}
 use Rattle.ground.specs.declared.GapRecord.{GapRecord}
+use Rattle.ground.specs.declared.lists.Lists.{Lists}
 use Rattle.ground.specs.declared.Label.{Label}
 use Rattle.ground.specs.declared.GapNumber.{GapNumber}
 use Rattle.ground.specs.Entries.{nat, int, no_record}
@@ -74,14 +75,15 @@ multiplier_of w e = fraction_at w.mult_num w.mult_den e.0
 
 -- ---- what a call is lent: as a `requires` sees it, and as an `ensures` does
 
-abbrev pub sheet_now :
-    (wanted weight : Bor (List ℤ)) (left right : Bor (List ℕ)) (distance : Bor (List ℤ)) (kind : Bor (List ℕ)) → Read
-sheet_now wanted weight left right distance kind =
-    record { wanted = wanted.now; weight = weight.now; gaps = lists left.now right.now distance.now kind.now }
+abbrev pub sheet_now : Lists → Read
+sheet_now l = record {
+  wanted = l.wanted.now;
+  weight = l.weight.now;
+  gaps = lists l.left.now l.right.now l.distance.now l.kind.now;
+}
 
-abbrev pub sheet_lent : (wanted weight : Param ℤ) (left right : Param ℕ) (distance : Param ℤ) (kind : Param ℕ) → Read
-sheet_lent wanted weight left right distance kind =
-    sheet_now wanted.entry weight.entry left.entry right.entry distance.entry kind.entry
+abbrev pub sheet_lent : Both Lists Lists → Read
+sheet_lent l = sheet_now l.entry
 
 abbrev pub records_lent : (wanted weight : Param ℤ) (gaps : Param GapRecord) → Read
 records_lent wanted weight gaps =

@@ -1,44 +1,37 @@
 -- The refusal table (document 01; document 02, Item 6), in the order of its checks.
 -- What it decides is 1 to 8 and 23; 9 is tied to the absence of a placement in Promise.
-use Rattle.std.specs.Prelude.{ℕ, zero, suc, Bool, false, cond, not, ◌&&◌, ◌||◌, List, [], ◌∷◌, ◌++◌, map, ltb, eqb, length, ℤ, pos, neg_ℤ}
+use Rattle.std.specs.Prelude.{ℕ, zero, suc, Bool, false, cond, not, ◌&&◌, ◌||◌, List, [], ◌∷◌, ◌++◌, map, ltb, eqb, length, Ok, Err, ℤ, pos, neg_ℤ}
 use Rattle.std.specs.Int.Signed.{lt_z}
-use Rattle.sheet_checks.specs.declared.Checked.{Checked}
-use Rattle.sheet_checks.specs.declared.Checked.TheVariants.{Pass, Refused}
 use Rattle.sheet_checks.specs.declared.check.Room.{Room}
 use Rattle.sheet_checks.specs.Lent.{Read, Written, LentGaps, lists, records, label_count, gap_count, record_at}
-use Rattle.ground.specs.Answers.{refused_at}
+use Rattle.ground.specs.Answers.{Answer, refused_at}
 use Rattle.ground.specs.Entries.{int}
 use Rattle.ground.specs.Kinds.{at_least_byte, exactly_byte}
 use Rattle.ground.specs.Limits.{distance_most, gaps_most, labels_most, wanted_most, weight_least, weight_most}
 
 -- ---- what a check answers
 
--- document 01's number for each case of a check's answer, and its place: each 0 where it passes
-abbrev pub number_of : Checked → ℕ
-number_of Pass = 0
-number_of (Refused r) = r.number
-
-abbrev pub refused_place : Checked → ℕ
-refused_place Pass = 0
-refused_place (Refused r) = r.place
+-- a check that passes
+abbrev pub pass : Answer
+pass = Ok tt
 
 -- "refused with its number and its place"
-abbrev pub refuse : (number place : ℕ) → Checked
-refuse number place = Refused (refused_at number place)
+abbrev pub refuse : (number place : ℕ) → Answer
+refuse number place = Err (refused_at number place)
 
 -- of two checks the first that refuses
-abbrev pub first_refusal : Checked → Checked → Checked
-first_refusal Pass later = later
-first_refusal (Refused r) later = Refused r
+abbrev pub first_refusal : Answer → Answer → Answer
+first_refusal (Ok _) later = later
+first_refusal (Err r) later = Err r
 
 -- "Checks run in this order .. by number, each over the whole sheet before the next"
-abbrev pub in_turn : List Checked → Checked
-in_turn [] = Pass
+abbrev pub in_turn : List Answer → Answer
+in_turn [] = pass
 in_turn (c ∷ later) = first_refusal c (in_turn later)
 
 -- a check whose place is 0
-abbrev pub test : ℕ → Bool → Checked
-test number bad = cond bad (refuse number 0) Pass
+abbrev pub test : ℕ → Bool → Answer
+test number bad = cond bad (refuse number 0) pass
 
 -- a check of each label or gap: its number, how many there are, and which of them are bad
 pub record Row : Type 0 where
@@ -47,20 +40,20 @@ pub record Row : Type 0 where
   pub bad : ℕ → Bool
 
 -- "the place is the first offender": the first of n that is bad
-unfoldable pub offender_below : (number n : ℕ) → (ℕ → Bool) → Checked
-offender_below number zero bad = Pass
-offender_below number (suc n) bad = first_refusal (offender_below number n bad) (cond (bad n) (refuse number n) Pass)
+unfoldable pub offender_below : (number n : ℕ) → (ℕ → Bool) → Answer
+offender_below number zero bad = pass
+offender_below number (suc n) bad = first_refusal (offender_below number n bad) (cond (bad n) (refuse number n) pass)
 
-abbrev pub offender : Row → Checked
+abbrev pub offender : Row → Answer
 offender row = offender_below row.number row.count row.bad
 
 -- 1 and 2, from the counts; 3 and 4, from whether they are met
-abbrev pub size_tests : (labels gaps : ℕ) (is_ragged is_short : Bool) → List Checked
+abbrev pub size_tests : (labels gaps : ℕ) (is_ragged is_short : Bool) → List Answer
 size_tests labels gaps is_ragged is_short =
     test 1 (ltb labels_most labels) ∷ test 2 (ltb gaps_most gaps) ∷ test 3 is_ragged ∷ test 4 is_short ∷ []
 
 -- the table of every entry that is lent a sheet: 1 to 4, and then a row for each check of labels or gaps
-unfoldable pub table_of : (labels gaps : ℕ) (is_ragged is_short : Bool) → List Row → Checked
+unfoldable pub table_of : (labels gaps : ℕ) (is_ragged is_short : Bool) → List Row → Answer
 table_of labels gaps is_ragged is_short checks = in_turn (size_tests labels gaps is_ragged is_short ++ map offender checks)
 
 -- ---- when each check is met
@@ -117,15 +110,15 @@ abbrev pub bad_weight : Read → Row
 bad_weight r = range_row 6 (label_count r) (pos weight_least) (pos weight_most) (int r.weight)
 
 -- 7 "left or right is no label of the sheet"
-abbrev pub stranger_row : (labels gaps : ℕ) (left right : ℕ → ℕ) → Row
-stranger_row labels gaps left right = record {
-  number = 7;
-  count = gaps;
-  bad = λ k. not (ltb (left k) labels) || not (ltb (right k) labels);
-}
+abbrev pub unknown : (labels : ℕ) (ends : ℕ × ℕ) → Bool
+unknown labels ends = not (ltb ends.0 labels) || not (ltb ends.1 labels)
 
 abbrev pub stranger : Read → Row
-stranger r = stranger_row (label_count r) (gap_count r) (λ k. (record_at r.gaps k).left) (λ k. (record_at r.gaps k).right)
+stranger r = record {
+  number = 7;
+  count = gap_count r;
+  bad = λ k. unknown (label_count r) ((record_at r.gaps k).left, (record_at r.gaps k).right);
+}
 
 -- 8 "gap outside its range"
 abbrev pub bad_gap : Read → Row
@@ -135,19 +128,16 @@ bad_gap r = range_row 8 (gap_count r) (neg_ℤ (pos distance_most)) (pos distanc
 abbrev pub neither : ℕ → Bool
 neither kind = unequal kind at_least_byte && unequal kind exactly_byte
 
-abbrev pub kind_row : (gaps : ℕ) (kind : ℕ → ℕ) → Row
-kind_row gaps kind = record { number = 23; count = gaps; bad = λ k. neither (kind k) }
-
 abbrev pub bad_kind : Read → Row
-bad_kind r = kind_row (gap_count r) (λ k. (record_at r.gaps k).kind)
+bad_kind r = record { number = 23; count = gap_count r; bad = λ k. neither (record_at r.gaps k).kind }
 
 abbrev pub rows : Read → List Row
 rows r = off_plate r ∷ bad_weight r ∷ stranger r ∷ bad_gap r ∷ bad_kind r ∷ []
 
 -- the table of a layout call, from the sizes of what it is lent to write
-abbrev pub table_for : Read → Room → Checked
+abbrev pub table_for : Read → Room → Answer
 table_for r room =
     table_of (label_count r) (gap_count r) (ragged r room.carried) (short (label_count r) (gap_count r) room) (rows r)
 
-abbrev pub table : Read → Written → Checked
+abbrev pub table : Read → Written → Answer
 table r w = table_for r (room_of w)

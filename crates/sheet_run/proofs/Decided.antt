@@ -10,24 +10,22 @@ use lib.IntN.{ℤ, pos}
 use Rattle.exact.specs.declared.Fraction.{Fraction}
 use Rattle.ground.specs.declared.Label.{Label}
 use Rattle.least_move.specs.Sheet.{label}
-use Rattle.ground.specs.declared.Answer.{Answer}
-use Rattle.ground.specs.declared.Answer.TheVariants as answer
-use Rattle.sheet_checks.specs.declared.Checked.{Checked}
-use Rattle.sheet_checks.specs.declared.Checked.TheVariants as checked
+use Rattle.std.specs.Prelude.{Ok, Err}
+use Rattle.ground.specs.Limits.{labels_most}
 use Rattle.sheet_checks.specs.Lent.{Written, label_count, sheet_of, place_of, multiplier_of}
 use Rattle.sheet_checks.specs.declared.check.Room.{Room}
-use Rattle.sheet_checks.specs.Refusals.{room_of, table_for, table}
+use Rattle.sheet_checks.specs.Refusals.{pass, room_of, table_for, table}
 use Rattle.layout.specs.Promise.{Accepted}
 use Rattle.ground.specs.Entries.{Filled}
-use Rattle.ground.specs.Answers.{refusal, ring_length_of}
+use Rattle.ground.specs.Answers.{Answer, placed, refusal, ring_length_of}
 use Rattle.layout.proofs.Facts.{refused_by_table, judged, places_known}
 use Rattle.text_rows.specs.Taking.{no_field}
 use Rattle.text_reading.specs.declared.Counts.{Counts}
-use Rattle.text_reading.specs.declared.Reading.{Reading}
-use Rattle.text_reading.specs.declared.Reading.TheVariants.{Sheet, Refused}
+use Rattle.text_reading.specs.Problems.{zero_lists}
+use Rattle.text_reading.specs.Readings.{Reading}
 use Rattle.text_reading.specs.Texts.{Lists, reading}
 use Rattle.text_listing.specs.Listing.{listing, refused_record}
-use Rattle.sheet_run.specs.Run.{LaidFrom, PrintedFor, Run, zero_lists, lent, listable_read, sheet_read}
+use Rattle.sheet_run.specs.Run.{LaidFrom, PrintedFor, Run, lent, listable_read, sheet_read}
 use Rattle.sheet_run.proofs.Refusals.{SmallReading, small_reading}
 
 -- a refusal's ring is not printed
@@ -46,7 +44,7 @@ first_same n xs ys hx hy same =
     get_or-take n xs i (pos 0) below ∙ same i below ∙ sym (get_or-take n ys i (pos 0) below))
 
 -- two calls on a sheet that was read, lent as much room as a run lends, with any carried records and buffers
-module _ (c : Counts) (l : Lists) (few : c.labels ≤ 48) (known : c.labels ≤ length l.wanted) {w w' : Written}
+module _ (c : Counts) (l : Lists) (few : c.labels ≤ labels_most) (known : c.labels ≤ length l.wanted) {w w' : Written}
     (rooms : room_of w ≡ room_of (lent c)) (rooms' : room_of w' ≡ room_of (lent c)) {p q : List ℕ} (one : LaidFrom w c l p) (two : LaidFrom w' c l q) where
   counted : label_count (sheet_read c l) ≡ c.labels
   counted = length-take-le c.labels l.wanted known
@@ -77,7 +75,7 @@ module _ (c : Counts) (l : Lists) (few : c.labels ≤ 48) (known : c.labels ≤ 
       ∙ sym (ap (λ (x : Answer). listing x no_field (listable_read c l two.after)) b)
       ∙ sym two.listed
 
-  both_placed : one.answer ≡ answer.Placed → Accepted (sheet_of (sheet_read c l)) w one.after → two.answer ≡ answer.Placed
+  both_placed : one.answer ≡ placed → Accepted (sheet_of (sheet_read c l)) w one.after → two.answer ≡ placed
       → Accepted (sheet_of (sheet_read c l)) w' two.after → ((i : Label) → i.0 < label_count (sheet_read c l)
       → place_of two.after i ≡ place_of one.after i) → p ≡ q
   unfolding sheet_of
@@ -94,7 +92,7 @@ module _ (c : Counts) (l : Lists) (few : c.labels ≤ 48) (known : c.labels ≤ 
   unfolding sheet_of
   start_unseen = go (table (sheet_read c l) w) refl
     where
-      passed : table (sheet_read c l) w ≡ checked.Pass → p ≡ q
+      passed : table (sheet_read c l) w ≡ pass → p ≡ q
       passed e =
           judged one.promise e
           (λ a first.
@@ -107,10 +105,10 @@ module _ (c : Counts) (l : Lists) (few : c.labels ≤ 48) (known : c.labels ≤ 
           (λ b second. absurd (none (place_of two.after) second.least.feasible))
           (λ b _ _. both_refused 9 0 (ring_length_of one.answer) (ring_length_of two.answer) a b))
 
-      go : (v : Checked) → table (sheet_read c l) w ≡ v → p ≡ q
-      go (checked.Refused r) e =
+      go : (v : Answer) → table (sheet_read c l) w ≡ v → p ≡ q
+      go (Err r) e =
           both_refused r.number r.place 0 0 (refused_by_table one.promise e).0 (refused_by_table two.promise (tables ∙ e)).0
-      go checked.Pass e = passed e
+      go (Ok _) e = passed e
 
 -- the whole: two runs on one text print the same, whatever stood in their buffers, so a text has one listing
 pub run_same : {text before before' after after' : List ℕ} {n n' : ℕ} → Run text before n after → Run text before' n' after' → take n after ≡ take n' after'
@@ -118,5 +116,5 @@ run_same {text} {before} {before'} {after} {after'} {n} {n'} one two =
     go (reading text zero_lists).answer (reading text zero_lists).lists (small_reading text zero_lists) one.prints two.prints
   where
     go : (r : Reading) (l : Lists) → SmallReading r l → PrintedFor r l (take n after) → PrintedFor r l (take n' after') → take n after ≡ take n' after'
-    go (Refused x field) l s a b = a ∙ sym b
-    go (Sheet c) l s a b = start_unseen c l s.0 s.2 refl refl a b
+    go (Err u) l s a b = a ∙ sym b
+    go (Ok c) l s a b = start_unseen c l s.0 s.2 refl refl a b

@@ -14,22 +14,22 @@ use mir.Val.{SFits}
 use Rattle.ground.specs.declared.Refusal.{Refusal}
 use Rattle.algebra.proofs.Quotient.{small_fits}
 use Rattle.least_move.specs.Sheet.{label}
-use Rattle.ground.specs.declared.Answer.{Answer}
-use Rattle.ground.specs.declared.Answer.TheVariants as answer
+use Rattle.std.specs.Prelude.{Ok, Err}
+use Rattle.ground.specs.Answers.{Answer, placed}
+use Rattle.ground.specs.Limits.{gaps_most, labels_most}
 use Rattle.sheet_checks.specs.Lent.{Written, label_count, sheet_of}
 use Rattle.layout.specs.Promise.{Promise, Accepted}
 use Rattle.layout.proofs.Facts.{placed_accepted}
 use Rattle.text_rows.specs.Taking.{FieldTold, no_field}
 use Rattle.text_rows.proofs.BadLines.{no_field_lem}
 use Rattle.text_reading.specs.declared.Counts.{Counts}
-use Rattle.text_reading.specs.declared.Reading.{Reading}
-use Rattle.text_reading.specs.declared.Reading.TheVariants.{Sheet, Refused}
-use Rattle.text_reading.specs.Readings.{field_of, number_of}
+use Rattle.text_reading.specs.Problems.{zero_lists}
+use Rattle.text_reading.specs.Readings.{Reading, field_of, number_of}
 use Rattle.text_reading.specs.Texts.{Lists, reading, text_most}
 use Rattle.text_reading.proofs.FieldsTold.{field_told}
 use Rattle.text_listing.specs.Listing.{listing, refused_record, listing_room}
 use Rattle.text_listing.proofs.Size.{AllFit, length_refused_record, length_sheet_records}
-use Rattle.sheet_run.specs.Run.{zero_lists, lent, listable_read, PrintedFor, sheet_read}
+use Rattle.sheet_run.specs.Run.{lent, listable_read, PrintedFor, sheet_read}
 use Rattle.sheet_run.proofs.Refusals.{SmallReading, small_answer, small_reading}
 
 pub take_most : {A : Type 0} (n : ℕ) (l : List A) → length (take n l) ≤ n
@@ -54,13 +54,13 @@ first_fit n l small k = go (ltb k n) refl
     go false e = rw (get_or-eq_default (take n l) (pos 0) {n = k} (omega (arith, take_most n l, ltb-false k n e))) (small_fits (pos 0) (omega arith))
 
 -- a layout of the sheet that was read
-module _ (c : Counts) (l : Lists) (w after : Written) (few : c.labels ≤ 48) (gaps : c.gaps ≤ 192) (known : c.labels ≤ length l.wanted) where
+module _ (c : Counts) (l : Lists) (w after : Written) (few : c.labels ≤ labels_most) (gaps : c.gaps ≤ gaps_most) (known : c.labels ≤ length l.wanted) where
   -- its labels are those that were counted
   counted : label_count (sheet_read c l) ≡ c.labels
   counted = length-take-le c.labels l.wanted known
 
   -- "Every place is over a denominator of at most 4,800 and lies within 1,140,000 of zero"; any slack fits its record
-  placed_most : Accepted (sheet_of (sheet_read c l)) w after → length (listing answer.Placed no_field (listable_read c l after)) ≤ listing_room
+  placed_most : Accepted (sheet_of (sheet_read c l)) w after → length (listing placed no_field (listable_read c l after)) ≤ listing_room
   unfolding sheet_of
   placed_most a =
       omega (
@@ -72,10 +72,10 @@ module _ (c : Counts) (l : Lists) (w after : Written) (few : c.labels ≤ 48) (g
 
   -- its listing
   pub laid_out_most : (a : Answer) → Promise (sheet_read c l) w a after → length (listing a no_field (listable_read c l after)) ≤ listing_room
-  laid_out_most (answer.Refused x) p =
-      let small = small_answer (sheet_read c l) w (answer.Refused x) after (omega (arith, counted)) (omega (arith, take_most c.gaps l.left)) p in
+  laid_out_most (Err x) p =
+      let small = small_answer (sheet_read c l) w (Err x) after (omega (arith, counted)) (omega (arith, take_most c.gaps l.left)) p in
       refused_most x no_field (no_field_lem x.number small.0 small.1) small.2
-  laid_out_most answer.Placed p = placed_most (placed_accepted p refl)
+  laid_out_most (Ok _) p = placed_most (placed_accepted p refl)
 
 -- what is printed for any text has at most 24,576 bytes
 pub printed_most : (text printed : List ℕ) → PrintedFor (reading text zero_lists).answer (reading text zero_lists).lists printed → length printed ≤ listing_room
@@ -83,5 +83,5 @@ printed_most text printed h =
     go (reading text zero_lists).answer (reading text zero_lists).lists (small_reading text zero_lists) (field_told text zero_lists) h
   where
     go : (r : Reading) (l : Lists) → SmallReading r l → FieldTold (number_of r) (field_of r) → PrintedFor r l printed → length printed ≤ listing_room
-    go (Refused x field) l s told e = rw e (refused_most x field told s)
-    go (Sheet c) l s told d = rw d.listed (laid_out_most c l (lent c) d.after s.0 s.1 s.2 d.answer d.promise)
+    go (Err u) l s told e = rw e (refused_most u.refusal u.field told s)
+    go (Ok c) l s told d = rw d.listed (laid_out_most c l (lent c) d.after s.0 s.1 s.2 d.answer d.promise)

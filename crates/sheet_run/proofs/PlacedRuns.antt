@@ -9,7 +9,8 @@ use lib.IntN.{ℤ, pos}
 use Rattle.exact.specs.declared.Fraction.{Fraction}
 use Rattle.exact.specs.Fraction.{whole}
 use Rattle.ground.specs.Limits.{labels_most}
-use Rattle.ground.specs.declared.Answer.TheVariants as answer
+use Rattle.std.specs.Prelude.{Ok}
+use Rattle.ground.specs.Answers.{placed}
 use Rattle.least_move.specs.Sheet.{label}
 use Rattle.least_move.specs.Bench.{Placed}
 use Rattle.sheet_checks.specs.Lent.{Read, sheet_of}
@@ -17,10 +18,10 @@ use Rattle.layout.specs.BenchCalls.{as_lists, lend, LentWith, EachCall, PlacedSo
 use Rattle.layout.specs.Promise.{Accepted, Promise}
 use Rattle.layout.proofs.Facts.{placed_accepted}
 use Rattle.text_rows.specs.Taking.{no_field}
-use Rattle.text_reading.specs.declared.Reading.TheVariants.{Sheet as sheet-of}
+use Rattle.text_reading.specs.Problems.{zero_lists}
 use Rattle.text_reading.specs.Texts.{Done, Typed, counts_of, filled, reading}
 use Rattle.text_listing.specs.Listing.{Listable, listing}
-use Rattle.sheet_run.specs.Run.{zero_lists, sheet_read, lent, LaidOut, PrintedFor, Run}
+use Rattle.sheet_run.specs.Run.{sheet_read, lent, LaidOut, PrintedFor, Run}
 
 -- a list that agrees with the numerators, or the denominators, of fractions entry by entry begins with them
 front_of : (part : Fraction → ℤ) (xs : List ℤ) (qs : List Fraction) → length qs ≤ length xs
@@ -41,7 +42,7 @@ listed t c = record {
 
 -- a text is read as the sheet of a placed case
 pub record Tells (text : List ℕ) (t : Typed) (c : Placed) : Type 0 where
-  pub typed : reading text zero_lists ≡ record { answer = sheet-of (counts_of t); lists = filled t zero_lists }
+  pub typed : reading text zero_lists ≡ record { answer = Ok (counts_of t); lists = filled t zero_lists }
   pub read_as : sheet_read (counts_of t) (filled t zero_lists) ≡ lend as_lists c.sheet
   pub lent_with : LentWith as_lists c.sheet (lent (counts_of t))
   pub per_label : length c.places ≡ length t.labels
@@ -49,7 +50,7 @@ pub record Tells (text : List ℕ) (t : Typed) (c : Placed) : Type 0 where
   pub few : length t.labels ≤ labels_most
 
 -- a run lays out the sheet that its text is read as
-pub laid_out : (t : Typed) {text before after : List ℕ} {n : ℕ} → reading text zero_lists ≡ record { answer = sheet-of (counts_of t); lists = filled t zero_lists }
+pub laid_out : (t : Typed) {text before after : List ℕ} {n : ℕ} → reading text zero_lists ≡ record { answer = Ok (counts_of t); lists = filled t zero_lists }
     → Run text before n after → LaidOut (counts_of t) (filled t zero_lists) (take n after)
 laid_out t {after = after} {n = n} e r = subst (λ (d : Done). PrintedFor d.answer d.lists (take n after)) e r.prints
 
@@ -79,8 +80,8 @@ module _ {text : List ℕ} {t : Typed} {c : Placed} (tells : Tells text t c) (la
         (omega (arith, tells.per_label, tells.few, accepted.place_dens.size, length-replicate labels_most (pos 0)))
         (λ k h. ap (λ (f : Fraction). f.den) (place_at k h)))
 
-    prints : printed ≡ listing answer.Placed no_field (listed t c)
+    prints : printed ≡ listing placed no_field (listed t c)
     prints = laid.listed ∙ rw (known.answered, nums, dens)
 
-  pub placed_prints : {before after : List ℕ} {n : ℕ} → Run text before n after → take n after ≡ listing answer.Placed no_field (listed t c)
+  pub placed_prints : {before after : List ℕ} {n : ℕ} → Run text before n after → take n after ≡ listing placed no_field (listed t c)
   placed_prints r = prints (laid_out t tells.typed r)

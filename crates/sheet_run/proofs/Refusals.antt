@@ -8,21 +8,17 @@ use native.Mathlib.Omega.{arith}
 use lib.Dec.{eqb}
 use lib.ListN.{length, length-append, length-map}
 use Rattle.ground.specs.declared.Refusal.{Refusal}
-use Rattle.ground.specs.declared.Answer.{Answer}
-use Rattle.ground.specs.declared.Answer.TheVariants as answer
-use Rattle.sheet_checks.specs.declared.Checked.{Checked}
-use Rattle.sheet_checks.specs.declared.Checked.TheVariants as checked
+use Rattle.std.specs.Prelude.{Ok, Err}
+use Rattle.ground.specs.Answers.{Answer}
+use Rattle.ground.specs.Limits.{gaps_most, labels_most}
 use Rattle.sheet_checks.specs.Lent.{Read, Written, label_count, gap_count, sheet_of}
 use Rattle.sheet_checks.specs.Refusals.{room_of, ragged, short, rows, table}
 use Rattle.sheet_checks.proofs.Told.{Told, table_told}
 use Rattle.layout.specs.Promise.{Promise, ByTable}
-use Rattle.text_rows.specs.declared.Taken.{Taken}
-use Rattle.text_rows.specs.declared.Taken.TheVariants.{Good, Bad}
 use Rattle.text_rows.specs.declared.Row.{Row}
-use Rattle.text_reading.specs.declared.Reading.{Reading}
-use Rattle.text_reading.specs.declared.Reading.TheVariants.{Sheet, Refused}
+use Rattle.text_reading.specs.Readings.{Reading}
 use Rattle.text_rows.specs.Lines.{lines, push, starts_with, line_feed, carriage_return}
-use Rattle.text_rows.specs.Taking.{NamesNone, number_most, taken}
+use Rattle.text_rows.specs.Taking.{NamesNone, Taken, number_most, taken}
 use Rattle.text_reading.specs.Texts.{Typed, nothing_typed, add, earlier_of, Outcome, bad_line, sheet, follow, read_from}
 use Rattle.text_reading.specs.Texts.{Lists, Done, filled, reading, text_most}
 use Rattle.text_reading.proofs.ReadingCases.{reading_cases}
@@ -59,13 +55,13 @@ line_below [] n t most h = tt
 line_below (l ∷ ls) n t most h = go (taken (earlier_of t) l) (λ row. line_below ls (suc n) (add t row) most (omega arith))
   where
     go : (k : Taken) → ((row : Row) → LineBelow most (read_from ls (suc n) (add t row))) → LineBelow most (follow k n t (read_from ls (suc n)))
-    go (Bad number field) later = omega arith
-    go (Good row) later = later row
+    go (Err b) later = omega arith
+    go (Ok row) later = later row
 
 -- a reading is a refusal at a small place, or a sheet within the limits of document 01 whose labels stand in the list
 abbrev pub SmallReading : Reading → Lists → Type 0
-SmallReading (Refused r field) l = r.place ≤ text_most
-SmallReading (Sheet c) l = (c.labels ≤ 48) × (c.gaps ≤ 192) × (c.labels ≤ length l.wanted)
+SmallReading (Err u) l = u.refusal.place ≤ text_most
+SmallReading (Ok c) l = (c.labels ≤ labels_most) × (c.gaps ≤ gaps_most) × (c.labels ≤ length l.wanted)
 
 abbrev SmallDone : Done → Type 0
 SmallDone d = SmallReading d.answer d.lists
@@ -98,18 +94,14 @@ small_table r w l g =
       ),
     )
 
-abbrev pub SmallAnswer : Answer → Type 0
-SmallAnswer answer.Placed = Unit {0}
-SmallAnswer (answer.Refused r) = Small r
-
 -- a layout call that keeps its promise refuses with a small number and place
-pub small_answer : (r : Read) (w : Written) (a : Answer) (after : Written) → label_count r ≤ text_most → gap_count r ≤ text_most → Promise r w a after → SmallAnswer a
+pub small_answer : (r : Read) (w : Written) (a : Answer) (after : Written) → label_count r ≤ text_most → gap_count r ≤ text_most → Promise r w a after → Told Small a
 small_answer r w a after l g p = go (table r w) (small_table r w l g) p.kept
   where
-    go : (v : Checked) → Told Small v → ByTable v (sheet_of r) w a after → SmallAnswer a
-    go (checked.Refused q) s k = subst SmallAnswer (sym k.0) s
-    go checked.Pass s k =
+    go : (v : Answer) → Told Small v → ByTable v (sheet_of r) w a after → Told Small a
+    go (Err q) s k = subst (Told Small) (sym k.0) s
+    go (Ok _) s k =
         ⊎_elim
-        (λ placed. subst SmallAnswer (sym placed.0) tt)
-        (λ ring. subst SmallAnswer (sym ring.0) (omega arith, omega arith, omega arith))
+        (λ placed. subst (Told Small) (sym placed.0) tt)
+        (λ ring. subst (Told Small) (sym ring.0) (omega arith, omega arith, omega arith))
         k

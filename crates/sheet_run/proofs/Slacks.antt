@@ -13,7 +13,7 @@ use lib.Seq.{get_or-take}
 use lib.IntN.{ℤ, pos, negsuc, neg_ℤ}
 use lib.Signed.{◌≤ℤ◌}
 use borrow.Author.Tests.{le-leb, ltb-false}
-use Rattle.ground.specs.declared.Answer.TheVariants.{Placed}
+use Rattle.ground.specs.Answers.{placed}
 use Rattle.ground.specs.declared.GapNumber.{GapNumber}
 use Rattle.ground.specs.Entries.{int, nat}
 use Rattle.ground.specs.Limits.{distance_most}
@@ -48,7 +48,7 @@ call_on wanted weight kind l = record { wanted = wanted; weight = weight; gaps =
 
 -- ---- the listing of a call on such a sheet, lent the places that the call wrote
 
-module _ (wanted weight : List ℤ) (kind : List ℕ) (l : Listable) {w after : Written} (promise : Promise (call_on wanted weight kind l) w Placed after)
+module _ (wanted weight : List ℤ) (kind : List ℕ) (l : Listable) {w after : Written} (promise : Promise (call_on wanted weight kind l) w placed after)
     (enough : length wanted ≤ labels_in l) (same : (i : ℕ) → i < length wanted → place_in l i ≡ place_of after (label i)) where
   accepted : Accepted (sheet_of (call_on wanted weight kind l)) w after
   accepted = placed_accepted promise refl
@@ -109,7 +109,7 @@ first_clear : (a b c d e f : Bool) → (a || b || c || d || e || f) ≡ false �
 first_clear true b c d e f h = h
 first_clear false b c d e f h = refl
 
-module _ (c : Counts) (l : Lists) {w after : Written} (promise : Promise (sheet_read c l) w Placed after) where
+module _ (c : Counts) (l : Lists) {w after : Written} (promise : Promise (sheet_read c l) w placed after) where
   -- a place is listed for each label
   pub enough_read : label_count (sheet_read c l) ≤ labels_in (listable_read c l after)
   unfolding sheet_of

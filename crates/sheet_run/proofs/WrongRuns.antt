@@ -7,19 +7,19 @@ use mathlib.Core.List.{List, [], ◌∷◌, ◌++◌}
 use native.Mathlib.Omega.{arith}
 use lib.ListN.{get_or, take}
 use lib.IntN.{pos, negsuc}
-use Rattle.ground.specs.declared.Answer.{Answer}
-use Rattle.ground.specs.declared.Answer.TheVariants.{Placed}
+use Rattle.ground.specs.Answers.{Answer, placed}
 use Rattle.sheet_checks.specs.Refusals.{offender_below, table_of}
 use Rattle.layout.proofs.Facts.{refused_by_table}
 use Rattle.text_rows.specs.Numeral.{digits_of}
 use Rattle.text_rows.specs.Bytes.{bytes}
 use Rattle.text_rows.specs.Taking.{no_field}
+use Rattle.text_reading.specs.Problems.{zero_lists}
 use Rattle.text_reading.specs.Texts.{counts_of, filled, reading, room_for}
 use Rattle.text_reading.proofs.Examples.{document_text, mixed_text, crossing_text, pair_text}
 use Rattle.text_reading.proofs.WrongReadings.{zero_text, zero_sheet, zero_typed}
 use Rattle.text_listing.specs.Listing.{listing, place_record, place_records, refused_record}
 use Rattle.text_listing.proofs.Samples.{first_record, second_record, slack_record_sample}
-use Rattle.sheet_run.specs.Run.{LaidOut, Run, zero_lists, listable_read}
+use Rattle.sheet_run.specs.Run.{LaidOut, Run, listable_read}
 use Rattle.sheet_run.proofs.PlacedRuns.{laid_out}
 use Rattle.sheet_run.proofs.Document.{document_prints, mixed_prints, crossing_prints, pair_prints}
 use Rattle.sheet_run.proofs.RefusedRuns.{blank_prints}
@@ -35,7 +35,7 @@ refusal_unprinted r = let first : ◌≡◌ {A = ℕ} 0 114 = ap (λ (l : List �
 -- numerators and denominators change places: the first record's numerator is 2, and not -3
 pub places_swapped :
     {before after : List ℕ} {n : ℕ} → Run document_text before n after →
-    take n after ≡ listing Placed no_field (record {
+    take n after ≡ listing placed no_field (record {
       place_num = pos 2 ∷ pos 2 ∷ [];
       place_den = negsuc 2 ∷ pos 9 ∷ [];
       left = 0 ∷ [];

@@ -1,7 +1,7 @@
 -- What a run of the station prints for a text (document 01, "Sheet text"; document 02, Items 1 and 3 to 6). What it prints for
 -- the texts of the documents' examples, and for one with the word same, follows (proofs/Document).
-use Rattle.std.specs.Prelude.{ℕ, ◌≤◌, ◌<◌, ◌≡◌, true, List, ◌++◌, take, replicate, ℤ, pos}
-use Rattle.ground.specs.declared.Answer.{Answer}
+use Rattle.std.specs.Prelude.{ℕ, ◌≤◌, ◌<◌, ◌≡◌, true, List, ◌++◌, take, replicate, ℤ, Ok, Err}
+use Rattle.ground.specs.Answers.{Answer}
 use Rattle.ground.specs.declared.Label.{Label}
 use Rattle.ground.specs.declared.Refusal.{Refusal}
 use Rattle.exact.specs.Nearest.{round_half_up}
@@ -15,26 +15,11 @@ use Rattle.text_rows.specs.Lines.{record_of}
 use Rattle.text_rows.specs.Numeral.{decimal}
 use Rattle.text_rows.specs.Taking.{FieldTold, no_field}
 use Rattle.text_reading.specs.declared.Counts.{Counts}
-use Rattle.text_reading.specs.declared.Reading.{Reading}
-use Rattle.text_reading.specs.declared.Reading.TheVariants.{Sheet, Refused}
+use Rattle.text_reading.specs.Problems.{zero_lists, zeros}
+use Rattle.text_reading.specs.Readings.{Reading}
 use Rattle.text_reading.specs.Texts.{Lists, reading}
 use Rattle.text_listing.specs.Listing.{Listable, gaps_in, labels_in, listing, listing_room, place_records, printed_unit, refused_record, refused_word, slack_records}
 use Rattle.ground.specs.Limits.{gaps_most, labels_most}
-
--- so many zeros
-abbrev pub zeros : ℕ → List ℤ
-zeros n = replicate n (pos 0)
-
--- the lists that a run reads into: zeros, with room for every sheet
-abbrev pub zero_lists : Lists
-zero_lists = record {
-  wanted = zeros labels_most;
-  weight = zeros labels_most;
-  left = replicate gaps_most 0;
-  right = replicate gaps_most 0;
-  distance = zeros gaps_most;
-  kind = replicate gaps_most 0;
-}
 
 -- the sheet that was read: the first entries, one per label or gap
 abbrev pub sheet_read : Counts → Lists → Read
@@ -111,8 +96,8 @@ LaidOut c l printed = LaidFrom (lent c) c l printed
 -- what is printed for a reading: "A refused sheet prints only: refused, number, place" and the field. `RefusedShown` holds
 -- of it (`text_refused` in proofs/RefusedRuns).
 abbrev pub PrintedFor : Reading → Lists → List ℕ → Type 0
-PrintedFor (Refused r field) l printed = printed ≡ refused_record r field
-PrintedFor (Sheet c) l printed = LaidOut c l printed
+PrintedFor (Err u) l printed = printed ≡ refused_record u.refusal u.field
+PrintedFor (Ok c) l printed = LaidOut c l printed
 
 -- the whole of a run: the first n bytes of the buffer are what is printed for the text, and the rest stays
 pub record Run (text before : List ℕ) (n : ℕ) (after : List ℕ) : Type 0 where

@@ -4,49 +4,29 @@ ghost use Rattle.std.specs.Prelude.{◌≤◌, length};
 ghost use Rattle.text_listing.specs.Listing.{Within, listable_lent, listable_now, listing, listing_room};
 ghost use Rattle.sheet_run.specs.Steps.{Holds, Answered, Printed, PrintedRead};
 ghost use Rattle.sheet_run.specs.Run.{Run};
-ghost use Rattle.text_reading.specs.Texts.{shared_lent, shared_now};
 
 use ground::Answer;
 use ground::limits::{GAPS, LABELS};
+use ground::problem::Problem;
 use layout::lists::lay_out;
+use text_listing::LISTING_ROOM;
 use text_listing::listing::write_listing;
-use text_listing::{LISTING_ROOM, Listed};
-use text_reading::read::read_sheet;
-use text_reading::{Counts, Reading};
+use text_reading::problem::{lists_of, read_problem};
 use text_rows::NO_FIELD;
 
 // Lays out the sheet that was read. It starts from a carried record of zeros; no other would print another byte.
-fn lay_out_read(
-    counts: Counts,
-    wanted: &[i64],
-    weight: &[i64],
-    left: &[usize],
-    right: &[usize],
-    distance: &[i64],
-    kind: &[u8],
-    place_num: &mut [i64],
-    place_den: &mut [i64],
-) -> Answer
-    requires { let l = shared_now wanted weight left right distance kind in
-        Holds counts l }
-    ensures { let l = shared_lent wanted weight left right distance kind in
-        Answered counts l place_num.old place_den.old result place_num.new place_den.new }
+fn lay_out_read(p: &Problem, place_num: &mut [i64], place_den: &mut [i64]) -> Answer
+    requires { Holds p.now }
+    ensures { Answered p.now place_num.old place_den.old result place_num.new place_den.new }
 {
-    let labels = counts.labels;
-    let gaps = counts.gaps;
     let mut carried = [0u8; GAPS];
     let mut mult_num = [0i64; GAPS];
     let mut mult_den = [0i64; GAPS];
     let mut ring = [0usize; LABELS];
     let mut back = [0u8; LABELS];
     lay_out(
-        &wanted[..labels],
-        &weight[..labels],
-        &left[..gaps],
-        &right[..gaps],
-        &distance[..gaps],
-        &kind[..gaps],
-        &mut carried[..gaps],
+        lists_of(p),
+        &mut carried[..p.gaps],
         place_num,
         place_den,
         &mut mult_num,
@@ -57,7 +37,7 @@ fn lay_out_read(
 }
 
 // Prints an answer, a refused one with its field, a placed one with the places of its labels and the slacks of its gaps,
-// and tells how many bytes.
+// and tells how many bytes. The lists go one by one, as `write_listing` takes them.
 fn print(
     answer: Answer,
     field: usize,
@@ -73,52 +53,29 @@ fn print(
     ensures { let l = listable_lent place_num place_den left right distance in
         Printed (listing answer field l) out.old result out.new }
 {
-    let Listed::Written(size) = write_listing(
+    let listed = write_listing(
         answer, field, place_num, place_den, left, right, distance, out,
-    ) else {
-        return 0;
-    };
-    size
+    );
+    listed.unwrap_or(0)
 }
 
 // Prints the sheet that was read.
-fn print_read(
-    counts: Counts,
-    wanted: &[i64],
-    weight: &[i64],
-    left: &[usize],
-    right: &[usize],
-    distance: &[i64],
-    kind: &[u8],
-    out: &mut [u8; LISTING_ROOM],
-) -> usize
-    requires { Holds counts (shared_now wanted weight left right distance kind) }
-    ensures { let l = shared_lent wanted weight left right distance kind in
-        PrintedRead counts l out.old result out.new }
+fn print_read(p: &Problem, out: &mut [u8; LISTING_ROOM]) -> usize
+    requires { Holds p.now }
+    ensures { PrintedRead p.now out.old result out.new }
 {
-    let labels = counts.labels;
-    let gaps = counts.gaps;
     let mut place_num = [0i64; LABELS];
     let mut place_den = [0i64; LABELS];
-    let answer = lay_out_read(
-        counts,
-        wanted,
-        weight,
-        left,
-        right,
-        distance,
-        kind,
-        &mut place_num,
-        &mut place_den,
-    );
+    let answer = lay_out_read(p, &mut place_num, &mut place_den);
+    let lists = lists_of(p);
     print(
         answer,
         NO_FIELD,
-        &place_num[..labels],
-        &place_den[..labels],
-        &left[..gaps],
-        &right[..gaps],
-        &distance[..gaps],
+        &place_num[..p.labels],
+        &place_den[..p.labels],
+        lists.left,
+        lists.right,
+        lists.distance,
         out,
     )
 }
@@ -127,30 +84,12 @@ fn print_read(
 pub fn run_sheet(text: &[u8], out: &mut [u8; LISTING_ROOM]) -> usize
     ensures { Run text.now out.old result out.new }
 {
-    let mut wanted = [0i64; LABELS];
-    let mut weight = [0i64; LABELS];
-    let mut left = [0usize; GAPS];
-    let mut right = [0usize; GAPS];
-    let mut distance = [0i64; GAPS];
-    let mut kind = [0u8; GAPS];
-    let found = read_sheet(
-        text,
-        &mut wanted,
-        &mut weight,
-        &mut left,
-        &mut right,
-        &mut distance,
-        &mut kind,
-    );
-    match found {
-        Reading::Refused(refusal, field) => {
-            let answer = Answer::Refused(refusal);
+    match read_problem(text) {
+        Ok(problem) => print_read(&problem, out),
+        Err(unread) => {
+            let answer = Err(unread.refusal);
+            let field = unread.field;
             print(answer, field, &[], &[], &[], &[], &[], out)
-        }
-        Reading::Sheet(counts) => {
-            print_read(
-                counts, &wanted, &weight, &left, &right, &distance, &kind, out,
-            )
         }
     }
 }

@@ -4,12 +4,13 @@ use native.Mathlib.Omega.{arith}
 use lib.IntN.{ℤ, pos, negsuc, neg_ℤ}
 use Rattle.algebra.proofs.Whole.{parts_le, parts_lt}
 use Rattle.exact.specs.declared.Fraction.{Fraction}
-use Rattle.single_fractions.specs.declared.SlackAnswer.TheVariants.{Slack}
+use Rattle.std.specs.Prelude.{Ok}
 use Rattle.single_fractions.specs.Places.{within_places}
 use Rattle.exact.specs.Nearest.{round_ties_to_away, round_half_up}
-use Rattle.single_fractions.specs.Round.{number_of, rounded}
+use Rattle.ground.specs.Answers.{number_of}
+use Rattle.single_fractions.specs.Round.{rounded}
 use Rattle.single_fractions.specs.declared.Ties.TheVariants.{AwayFromZero}
-use Rattle.single_fractions.specs.declared.round.Half.TheVariants.{Under, At}
+use Rattle.std.specs.declared.cmp.Ordering.TheVariants.{Less, Equal}
 use Rattle.single_fractions.specs.RoundingCases.{zero_or_above, below_zero, InCase, next_away}
 use Rattle.exact.specs.Slack.{euclid, lowest_of}
 use Rattle.single_fractions.specs.Slack.{refusal, slack_answer}
@@ -53,18 +54,18 @@ unfolding rounded within_places
 not_refused = refl
 
 -- 0/1 is zero or above, under half
-zero : InCase (record { side = zero_or_above; half = Under }) (pos 0) (pos 1)
+zero : InCase (record { side = zero_or_above; half = Less }) (pos 0) (pos 1)
 zero = (parts_le (omega arith), omega arith)
 
 -- -4/2 is below zero, under half, and so is -1/3, which gives 0
-minus_two : InCase (record { side = below_zero; half = Under }) (neg_ℤ (pos 4)) (pos 2)
+minus_two : InCase (record { side = below_zero; half = Less }) (neg_ℤ (pos 4)) (pos 2)
 minus_two = (parts_lt (omega arith), omega arith)
 
-minus_third : InCase (record { side = below_zero; half = Under }) (neg_ℤ (pos 1)) (pos 3)
+minus_third : InCase (record { side = below_zero; half = Less }) (neg_ℤ (pos 1)) (pos 3)
 minus_third = (parts_lt (omega arith), omega arith)
 
 -- -1/2 is below zero, at half, whose next whole number away from zero is -1
-minus_half : InCase (record { side = below_zero; half = At }) (neg_ℤ (pos 1)) (pos 2)
+minus_half : InCase (record { side = below_zero; half = Equal }) (neg_ℤ (pos 1)) (pos 2)
 minus_half = (parts_lt (omega arith), refl)
 
 minus_half_next : next_away below_zero (neg_ℤ (pos 1)) (pos 2) ≡ neg_ℤ (pos 1)
@@ -76,22 +77,22 @@ abbrev over : ℤ → ℤ → Fraction
 over num den = record { num = num; den = den }
 
 -- -3/2 and 9/2 are 6 apart
-tight : slack_answer (over (neg_ℤ (pos 3)) (pos 2)) (over (pos 9) (pos 2)) (pos 6) ≡ Slack (over (pos 0) (pos 1))
+tight : slack_answer (over (neg_ℤ (pos 3)) (pos 2)) (over (pos 9) (pos 2)) (pos 6) ≡ Ok (over (pos 0) (pos 1))
 unfolding slack_answer within_places lowest_of euclid
 tight = refl
 
 -- the places need not be in lowest terms, and the slack is
-not_lowest : slack_answer (over (pos 6) (pos 4)) (over (pos 10) (pos 4)) (pos 1) ≡ Slack (over (pos 0) (pos 1))
+not_lowest : slack_answer (over (pos 6) (pos 4)) (over (pos 10) (pos 4)) (pos 1) ≡ Ok (over (pos 0) (pos 1))
 unfolding slack_answer within_places lowest_of euclid
 not_lowest = refl
 
 -- a gap that is broken
-broken : slack_answer (over (pos 1) (pos 2)) (over (pos 1) (pos 3)) (pos 0) ≡ Slack (over (neg_ℤ (pos 1)) (pos 6))
+broken : slack_answer (over (pos 1) (pos 2)) (over (pos 1) (pos 3)) (pos 0) ≡ Ok (over (neg_ℤ (pos 1)) (pos 6))
 unfolding slack_answer within_places lowest_of euclid
 broken = refl
 
 -- a distance below zero
-distance_below_zero : slack_answer (over (pos 2) (pos 4)) (over (pos 2) (pos 4)) (neg_ℤ (pos 1)) ≡ Slack (over (pos 1) (pos 1))
+distance_below_zero : slack_answer (over (pos 2) (pos 4)) (over (pos 2) (pos 4)) (neg_ℤ (pos 1)) ≡ Ok (over (pos 1) (pos 1))
 unfolding slack_answer within_places lowest_of euclid
 distance_below_zero = refl
 
@@ -113,6 +114,6 @@ unfolding slack_answer within_places
 denominator_past = refl
 
 -- every number at a limit
-at_limits : slack_answer (over (neg_ℤ (pos 5472000000)) (pos 4799)) (over (pos 5472000000) (pos 4800)) (neg_ℤ (pos 20000)) ≡ Slack (over (pos 11038840000) (pos 4799))
+at_limits : slack_answer (over (neg_ℤ (pos 5472000000)) (pos 4799)) (over (pos 5472000000) (pos 4800)) (neg_ℤ (pos 20000)) ≡ Ok (over (pos 11038840000) (pos 4799))
 unfolding slack_answer within_places lowest_of euclid
 at_limits = refl

@@ -6,14 +6,14 @@ use lib.IntN.{ℤ}
 use Rattle.algebra.proofs.Whole.{le_parts, parts_le, parts_lt}
 use Rattle.exact.specs.declared.Fraction.{Fraction}
 use Rattle.exact.specs.Slack.{slack_between, Measurable}
-use Rattle.single_fractions.specs.declared.SlackAnswer.TheVariants.{Slack}
+use Rattle.std.specs.Prelude.{Ok}
 use Rattle.single_fractions.specs.Places.{within_places}
 use Rattle.single_fractions.specs.Slack.{within_distance, refusal, slack_answer}
 use Rattle.single_fractions.proofs.PlaceLimits.{places_passed}
 
 module _ (l r : Fraction) (g : ℤ) where
   -- places and a distance within their limits are not refused
-  pub slack_of_places : within_places l.num l.den ≡ true → within_places r.num r.den ≡ true → within_distance g ≡ true → slack_answer l r g ≡ Slack (slack_between l r g)
+  pub slack_of_places : within_places l.num l.den ≡ true → within_places r.num r.den ≡ true → within_distance g ≡ true → slack_answer l r g ≡ Ok (slack_between l r g)
   unfolding slack_answer
   slack_of_places h k m = rw (h, k, m) refl
 

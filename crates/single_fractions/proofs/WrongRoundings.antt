@@ -11,13 +11,13 @@ use Rattle.algebra.proofs.Whole.{pp, parts_lt}
 use Rattle.ground.specs.declared.Refusal.{Refusal}
 use Rattle.single_fractions.specs.declared.Ties.{Ties}
 use Rattle.single_fractions.specs.declared.Ties.TheVariants.{AwayFromZero, Up}
-use Rattle.single_fractions.specs.declared.Rounded.{Rounded}
-use Rattle.single_fractions.specs.declared.Rounded.TheVariants.{Whole, Refused}
+use Rattle.std.specs.Prelude.{Ok, Err}
 use Rattle.exact.proofs.Nearest.{rounded_ties_to_away, ties_to_away_one, round_half_up_lem, half_up_nearest, half_up_one, ties_up_one}
 use Rattle.single_fractions.proofs.RoundingCases.{decided}
 use Rattle.single_fractions.specs.Places.{within_places}
 use Rattle.exact.specs.Nearest.{round_ties_to_away, TiesToAway, round_half_up, TiesUp, HalfUp}
-use Rattle.single_fractions.specs.Round.{GoesUp, number_of, whole_of, refusal12, rounded}
+use Rattle.ground.specs.Answers.{number_of}
+use Rattle.single_fractions.specs.Round.{GoesUp, whole_of, refusal12, rounded, Rounded}
 use Rattle.single_fractions.specs.RoundingCases.{ByCases}
 
 -- ---- 12 guards both roundings
@@ -63,7 +63,7 @@ one_for_the_other e = omega (arith, ap nat_abs (ap whole_of e))
 
 -- z is neither what the cases give nor what IEEE 754's rule gives
 abbrev NotGiven : ℤ → ℤ → ℤ → Type 0
-NotGiven num den z = (ByCases num den (Whole z) → ⊥) × (TiesToAway num den z → ⊥)
+NotGiven num den z = (ByCases num den (Ok z) → ⊥) × (TiesToAway num den z → ⊥)
 
 not_given : (num den z : ℤ) → pos 0 <ℤ den → (z ≡ round_ties_to_away num den → ⊥) → NotGiven num den z
 not_given num den z above differs =
@@ -112,11 +112,11 @@ unfolding round_ties_to_away
 sign_lost = not_given _ _ _ (parts_lt (omega arith)) (λ e. omega (arith, ap pp e))
 
 abbrev is_refused : Rounded → Bool
-is_refused (Whole z) = false
-is_refused (Refused r) = true
+is_refused (Ok z) = false
+is_refused (Err r) = true
 
 -- a refusal goes by no case
-refused_instead : (num den : ℤ) (r : Refusal) → ByCases num den (Refused r) → ⊥
+refused_instead : (num den : ℤ) (r : Refusal) → ByCases num den (Err r) → ⊥
 refused_instead num den r by = true≢false (ap is_refused (decided num den by))
 
 -- ---- other rules than halves to the larger number: a wrong whole number goes by neither of its laws
@@ -133,7 +133,7 @@ not_up num den z above differs =
     )
 
 -- a refusal goes by neither
-up_refused_instead : (num den : ℤ) (r : Refusal) → GoesUp num den (Refused r) → ⊥
+up_refused_instead : (num den : ℤ) (r : Refusal) → GoesUp num den (Err r) → ⊥
 up_refused_instead num den r up = true≢false (ap is_refused up.gives)
 
 -- a half goes away from zero

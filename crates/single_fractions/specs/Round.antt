@@ -1,31 +1,25 @@
 -- The entry that rounds a single fraction to whole units, halves away from zero (document 01: "roundTiesToAway of IEEE 754")
 -- or to the larger number, as the listing does (document 02, Item 4); and refusal 12.
-use Rattle.std.specs.Prelude.{ℕ, ◌≡◌, cond, ℤ, pos}
-use Rattle.ground.specs.Answers.{refused_at}
+use Rattle.std.specs.Prelude.{◌≡◌, cond, ℤ, pos, Result, Ok, Err}
+use Rattle.ground.specs.declared.Refusal.{Refusal}
+use Rattle.ground.specs.Answers.{number_of, refused_at}
 use Rattle.exact.specs.Nearest.{round_ties_to_away, round_half_up, TiesUp, HalfUp}
 use Rattle.single_fractions.specs.declared.Ties.{Ties}
 use Rattle.single_fractions.specs.declared.Ties.TheVariants.{AwayFromZero, Up}
-use Rattle.single_fractions.specs.declared.Rounded.{Rounded}
-use Rattle.single_fractions.specs.declared.Rounded.TheVariants.{Whole, Refused}
 use Rattle.single_fractions.specs.Places.{within_places}
 
--- document 01's number for each case of the answer (0: not refused), its place, and the whole number given:
--- with 12 "the whole number given is 0"
-abbrev pub number_of : Rounded → ℕ
-number_of (Whole z) = 0
-number_of (Refused r) = r.number
+-- the answer: the whole unit, or a refusal
+abbrev pub Rounded : Type 0
+Rounded = Result ℤ Refusal
 
-abbrev pub refused_place : Rounded → ℕ
-refused_place (Whole z) = 0
-refused_place (Refused r) = r.place
-
+-- the whole number given: with 12 "the whole number given is 0"
 abbrev pub whole_of : Rounded → ℤ
-whole_of (Whole z) = z
-whole_of (Refused r) = pos 0
+whole_of (Ok z) = z
+whole_of (Err r) = pos 0
 
 -- refusal 12, whose place is 0
 abbrev pub refusal12 : Rounded
-refusal12 = Refused (refused_at 12 0)
+refusal12 = Err (refused_at 12 0)
 
 -- the whole number by each rule for halves
 abbrev pub whole_by : Ties → ℤ → ℤ → ℤ
@@ -34,14 +28,14 @@ whole_by Up = round_half_up
 
 -- the answer, the whole number or refusal 12: "12 guards both roundings"
 unfoldable pub rounded : Ties → ℤ → ℤ → Rounded
-rounded ties num den = cond (within_places num den) (Whole (whole_by ties num den)) refusal12
+rounded ties num den = cond (within_places num den) (Ok (whole_by ties num den)) refusal12
 
 -- ---- the law of halves to the larger number, of every fraction not refused (`halves_up` in proofs/HalvesUp); that of halves
 -- away from zero is `SixCases` in RoundingCases
 
 pub record GoesUp (num den : ℤ) (answer : Rounded) : Type 0 where
   pub unit : ℤ
-  pub gives : answer ≡ Whole unit
+  pub gives : answer ≡ Ok unit
   -- no whole number is nearer than the one given, and another that is as near is smaller
   pub ties_up : TiesUp num den unit
   -- it is above num/den - 1/2, and at most num/den + 1/2

@@ -9,22 +9,14 @@ pub mod round;
 pub mod slack;
 
 // Where halves go: away from zero, or up to the larger number.
-#[derive(Clone, Copy)]
+#[derive(Clone, Copy, Debug, PartialEq, Eq)]
 pub enum Ties {
     AwayFromZero,
     Up,
 }
 
 // The answer of a rounding: the whole unit, or a refusal.
-#[derive(Clone, Copy)]
-pub enum Rounded {
-    Whole(i64),
-    Refused(Refusal),
-}
+pub type Rounded = Result<i64, Refusal>;
 
 // The slack of a gap, or a refusal.
-#[derive(Clone, Copy)]
-pub enum SlackAnswer {
-    Slack(Fraction),
-    Refused(Refusal),
-}
+pub type SlackAnswer = Result<Fraction, Refusal>;

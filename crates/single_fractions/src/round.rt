@@ -3,66 +3,21 @@ ghost use Rattle.std.specs.Prelude.{◌≡◌, pos, ◌≤ℤ◌};
 ghost use Rattle.exact.specs.Divide.{InRange};
 ghost use Rattle.single_fractions.specs.RoundingCases.{AgainstHalf};
 ghost use Rattle.exact.specs.Nearest.{round_ties_to_away};
-ghost use Rattle.single_fractions.specs.Round.{refusal12, rounded, number_of, refused_place, whole_of};
+ghost use Rattle.single_fractions.specs.Round.{rounded};
 
 use crate::half_up::half_up;
 use crate::places::within_places;
 use crate::{Rounded, Ties};
 use ground::Refusal;
+use ground::rules::Rule;
+use std::cmp::Ordering;
 
-impl Rounded {
-    // The refusal's number, or 0.
-    pub fn number(self) -> usize
-        ensures { result ≡ number_of self }
-    {
-        match self {
-            Rounded::Whole(_) => 0,
-            Rounded::Refused(refusal) => refusal.number,
-        }
-    }
-
-    // The refusal's place, or 0.
-    pub fn place(self) -> usize
-        ensures { result ≡ refused_place self }
-    {
-        match self {
-            Rounded::Whole(_) => 0,
-            Rounded::Refused(refusal) => refusal.place,
-        }
-    }
-
-    // The whole number given, which is 0 for a refusal.
-    pub fn whole(self) -> i64
-        ensures { result ≡ whole_of self }
-    {
-        match self {
-            Rounded::Whole(unit) => unit,
-            Rounded::Refused(_) => 0,
-        }
-    }
-}
-
-// The remainder of a magnitude against half.
-#[derive(Clone, Copy)]
-pub(crate) enum Half {
-    Under,
-    At,
-    Over,
-}
-
-// How the remainder of a magnitude by den stands to half of den.
-fn against_half(magnitude: i64, den: i64) -> Half
+// How the remainder of a magnitude by den stands to half of den: under, at or over it.
+fn against_half(magnitude: i64, den: i64) -> Ordering
     requires { (pos 0 ≤ℤ magnitude) × InRange (record { num = magnitude; den = den }) }
     ensures { AgainstHalf result magnitude den }
 {
-    let twice = 2 * (magnitude % den);
-    if twice < den {
-        Half::Under
-    } else if den < twice {
-        Half::Over
-    } else {
-        Half::At
-    }
+    (2 * (magnitude % den)).cmp(&den)
 }
 
 // The nearest whole number to num/den, halves away from zero, by six cases: zero or above and below zero, and for each
@@ -74,30 +29,19 @@ fn ties_to_away(num: i64, den: i64) -> i64
     if num >= 0 {
         let part = num / den;
         match against_half(num, den) {
-            Half::Under => part,
-            Half::At => part + 1,
-            Half::Over => part + 1,
+            Ordering::Less => part,
+            Ordering::Equal => part + 1,
+            Ordering::Greater => part + 1,
         }
     } else {
         let magnitude = -num;
         let part = magnitude / den;
         match against_half(magnitude, den) {
-            Half::Under => -part,
-            Half::At => -(part + 1),
-            Half::Over => -(part + 1),
+            Ordering::Less => -part,
+            Ordering::Equal => -(part + 1),
+            Ordering::Greater => -(part + 1),
         }
     }
-}
-
-// Refusal 12, whose place is 0.
-fn refused() -> Rounded
-    ensures { result ≡ refusal12 }
-{
-    Rounded::Refused(Refusal {
-        number: 12,
-        place: 0,
-        ring: 0,
-    })
 }
 
 // Rounds a fraction to the nearest whole unit, or refuses it with 12. Any two numbers may be given.
@@ -105,10 +49,10 @@ pub fn round(ties: Ties, num: i64, den: i64) -> Rounded
     ensures { result ≡ rounded ties num den }
 {
     if !within_places(num, den) {
-        return refused();
+        return Err(Refusal::at(Rule::Place, 0));
     }
     match ties {
-        Ties::AwayFromZero => Rounded::Whole(ties_to_away(num, den)),
-        Ties::Up => Rounded::Whole(half_up(num, den)),
+        Ties::AwayFromZero => Ok(ties_to_away(num, den)),
+        Ties::Up => Ok(half_up(num, den)),
     }
 }

@@ -1,9 +1,7 @@
 #![tactic(auto)]
 // The station program: the text of a sheet from standard input, its listing to standard output. Where the text cannot
 // be read, or the listing not be written whole, one line on standard error says so.
-mod input;
-
-use input::{Input, read_input};
+use console::read_full;
 use sheet_run::run_sheet;
 use text_listing::LISTING_ROOM;
 use text_reading::TEXT_MOST;
@@ -22,7 +20,7 @@ fn print_sheet(rt: &(impl Print + Eprint), text: &[u8]) {
 
 fn main(rt: HostRuntime) {
     let mut text = [0u8; TEXT_ROOM];
-    let Input::Read(size) = read_input(&mut rt.stdin(), &mut text) else {
+    let Ok(size) = read_full(&mut rt.stdin(), &mut text) else {
         let _ = rt.eprintln("station: the sheet could not be read");
         return;
     };

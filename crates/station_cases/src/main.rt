@@ -3,46 +3,26 @@
 // stdout was worked out apart from this program.
 // Every refusal is there but 3, 4 and 23, which no text can bring about (the lists of a run belong together and have
 // room, and the words of a text name known kinds), and 12, which belongs to single fractions.
-ghost use Rattle.std.specs.Prelude.{◌≤◌, length};
-
-use console::{INPUT_MOST, read_full};
+use console::{INPUT_MOST, first_line, read_full, split_at_byte};
 use sheet_run::run_sheet;
 use std::io;
 use text_listing::LISTING_ROOM;
 
-// Where the first line ends.
-fn after_name(entry: &[u8]) -> usize
-    ensures { result ≤ length entry.now }
-{
-    let mut k: usize = 0;
-    while k < entry.len() {
-        if entry[k] == b'\n' {
-            return k + 1;
-        }
-        k += 1;
-    }
-    k
-}
-
 // Prints a text's name and its listing.
 fn show(rt: &impl Print, entry: &[u8]) -> io::Result<()> {
     let mut out = [0u8; LISTING_ROOM];
-    let at = after_name(entry);
-    rt.write_all(&entry[..at])?;
-    let size = run_sheet(&entry[at..], &mut out);
+    let (name, text) = entry.split_at(first_line(entry));
+    rt.write_all(name)?;
+    let size = run_sheet(text, &mut out);
     rt.write_all(&out[..size])
 }
 
-// Takes the texts apart.
+// Takes the texts apart. (These lines stand in three programs: with a closure for what is shown they would be no fewer.)
 fn show_all(rt: &impl Print, texts: &[u8]) -> io::Result<()> {
-    let mut start: usize = 0;
-    let mut at: usize = 0;
-    while at < texts.len() {
-        if texts[at] == 0 {
-            show(rt, &texts[start..at])?;
-            start = at + 1;
-        }
-        at += 1;
+    let mut rest = texts;
+    while let Some((entry, others)) = split_at_byte(rest, 0) {
+        show(rt, entry)?;
+        rest = others;
     }
     Ok(())
 }

@@ -1,4 +1,5 @@
 pub mod Appending
+pub mod PrintedDigits
 pub mod PrintedSlack
 pub mod SlackSize
 pub mod Size

@@ -4,7 +4,7 @@ use mathlib.Core.Path.{◌≡◌, refl}
 use mathlib.Core.List.{List, [], ◌∷◌, ◌++◌}
 use Prim.Native.Nat.{ℕ}
 use lib.IntN.{pos, negsuc}
-use Rattle.ground.specs.declared.Answer.TheVariants.{Placed, Refused}
+use Rattle.std.specs.Prelude.{Ok, Err}
 use Rattle.single_fractions.specs.Places.{within_places}
 use Rattle.exact.specs.Nearest.{round_half_up}
 use Rattle.single_fractions.specs.Round.{rounded}
@@ -35,7 +35,7 @@ run = record {
   distance = pos 6 ∷ [];
 }
 
-pub run_listed : listing Placed no_field run ≡ first_record ++ second_record ++ slack_record_sample
+pub run_listed : listing (Ok tt) no_field run ≡ first_record ++ second_record ++ slack_record_sample
 unfolding place_records place_record slack_records slack_record printed_slack slack_answer lowest_of euclid digits_of unit_of rounded round_half_up within_places
 run_listed = refl
 
@@ -52,7 +52,7 @@ mixed_places = record {
 abbrev pub mixed_listing : List ℕ
 mixed_listing = bytes "place,0,-1,1,-1\r\nplace,1,21,1,21\r\nslack,0,0,1\r\n"
 
-pub mixed_listed : listing Placed no_field mixed_places ≡ mixed_listing
+pub mixed_listed : listing (Ok tt) no_field mixed_places ≡ mixed_listing
 unfolding place_records place_record slack_records slack_record printed_slack slack_answer lowest_of euclid digits_of unit_of rounded round_half_up within_places
 mixed_listed = refl
 
@@ -69,7 +69,7 @@ crossing_places = record {
 abbrev pub crossing_listing : List ℕ
 crossing_listing = bytes "place,0,1,2,1\r\nplace,1,-1,2,0\r\nslack,0,0,1\r\n"
 
-pub crossing_listed : listing Placed no_field crossing_places ≡ crossing_listing
+pub crossing_listed : listing (Ok tt) no_field crossing_places ≡ crossing_listing
 unfolding place_records place_record slack_records slack_record printed_slack slack_answer lowest_of euclid digits_of unit_of rounded round_half_up within_places
 crossing_listed = refl
 
@@ -86,7 +86,7 @@ pair_places = record {
 abbrev pub pair_listing : List ℕ
 pair_listing = bytes "place,0,2,1,2\r\nplace,1,8,1,8\r\nslack,0,0,1\r\n"
 
-pub pair_listed : listing Placed no_field pair_places ≡ pair_listing
+pub pair_listed : listing (Ok tt) no_field pair_places ≡ pair_listing
 unfolding place_records place_record slack_records slack_record printed_slack slack_answer lowest_of euclid digits_of unit_of rounded round_half_up within_places
 pair_listed = refl
 
@@ -101,7 +101,7 @@ pairs = record {
 }
 
 pub pairs_listed :
-    listing Placed no_field pairs ≡ bytes "place,0,-8,3,-3\r\nplace,1,7,3,2\r\nplace,2,77,2,39\r\nplace,3,85,2,43\r\n"
+    listing (Ok tt) no_field pairs ≡ bytes "place,0,-8,3,-3\r\nplace,1,7,3,2\r\nplace,2,77,2,39\r\nplace,3,85,2,43\r\n"
     ++ bytes "slack,0,0,1\r\nslack,1,0,1\r\nslack,2,37,6\r\n"
 unfolding place_records place_record slack_records slack_record printed_slack slack_answer lowest_of euclid digits_of unit_of rounded round_half_up within_places
 pairs_listed = refl
@@ -111,11 +111,11 @@ abbrev pub none : Listable
 none = record { place_num = []; place_den = []; left = []; right = []; distance = [] }
 
 -- a ring is refused with 9
-pub ring_listed : listing (Refused (record { number = 9; place = 0; ring = 2 })) no_field none ≡ bytes "refused,9,0,0\r\n"
+pub ring_listed : listing (Err (record { number = 9; place = 0; ring = 2 })) no_field none ≡ bytes "refused,9,0,0\r\n"
 unfolding refused_record digits_of
 ring_listed = refl
 
 -- "a sheet of no labels .. prints nothing"
-pub none_listed : listing Placed no_field none ≡ []
+pub none_listed : listing (Ok tt) no_field none ≡ []
 unfolding place_records slack_records
 none_listed = refl

@@ -9,7 +9,7 @@ use lib.IntN.{ℤ, nat_abs}
 use mir.Syntax.{w64}
 use mir.Val.{Fits, SFits}
 use Rattle.ground.specs.declared.Refusal.{Refusal}
-use Rattle.single_fractions.specs.declared.Rounded.TheVariants.{Whole}
+use Rattle.std.specs.Prelude.{Ok, Err}
 use Rattle.exact.specs.declared.Fraction.{Fraction}
 use Rattle.single_fractions.specs.Places.{within_places}
 use Rattle.exact.specs.Nearest.{round_half_up}
@@ -17,8 +17,7 @@ use Rattle.exact.proofs.Nearest.{round_half_up_lem, half_up_most}
 use Rattle.single_fractions.specs.Round.{rounded, refusal12, whole_of}
 use Rattle.single_fractions.proofs.PlaceLimits.{places_passed}
 use Rattle.single_fractions.proofs.Rounding.{in_range}
-use Rattle.ground.specs.declared.Answer.{Answer}
-use Rattle.ground.specs.declared.Answer.TheVariants as answer
+use Rattle.ground.specs.Answers.{Answer}
 use Rattle.ground.specs.Entries.{int}
 use Rattle.ground.specs.Limits.{labels_most, gaps_most, place_num_most}
 use Rattle.text_rows.specs.Numeral.{decimal, signed_decimal}
@@ -34,7 +33,7 @@ whole_bound : (num den : ℤ) → nat_abs (unit_of num den) ≤ place_num_most
 unfolding unit_of rounded
 whole_bound num den = go (within_places num den) refl
   where
-    go : (t : Bool) → within_places num den ≡ t → nat_abs (whole_of (cond t (Whole (round_half_up num den)) refusal12)) ≤ place_num_most
+    go : (t : Bool) → within_places num den ≡ t → nat_abs (whole_of (cond t (Ok (round_half_up num den)) refusal12)) ≤ place_num_most
     go true e =
         let above = (in_range num den e).above in
         omega (arith, half_up_most num den (round_half_up num den) above (round_half_up_lem num den above), (places_passed num den e).1.1)
@@ -123,12 +122,12 @@ length_sheet_records l h g fn fd =
 
 -- the numbers of an answer are of 64 bits
 abbrev pub AnswerFits : Answer → (field : ℕ) → Type 0
-AnswerFits answer.Placed field = Unit
-AnswerFits (answer.Refused r) field = Fits w64 r.number × Fits w64 r.place × Fits w64 field
+AnswerFits (Ok _) field = Unit
+AnswerFits (Err r) field = Fits w64 r.number × Fits w64 r.place × Fits w64 field
 
 -- no listing is longer than its room
 pub length_listing :
     (a : Answer) (field : ℕ) (l : Listable) → Within l → AnswerFits a field → AllFit l.place_num → AllFit l.place_den
     → length (listing a field l) ≤ listing_room
-length_listing answer.Placed field l w f fn fd = omega (arith, length_sheet_records l w.labels w.gaps fn fd)
-length_listing (answer.Refused r) field l w f fn fd = omega (arith, length_refused_record r field f.0 f.1 f.2)
+length_listing (Ok _) field l w f fn fd = omega (arith, length_sheet_records l w.labels w.gaps fn fd)
+length_listing (Err r) field l w f fn fd = omega (arith, length_refused_record r field f.0 f.1 f.2)

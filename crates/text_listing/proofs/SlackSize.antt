@@ -13,7 +13,7 @@ use Rattle.algebra.proofs.Quotient.{nat_abs-neg, nat_abs-*, nat_abs-+, above_nat
 use Rattle.ground.specs.Entries.{nat, int}
 use Rattle.ground.specs.Limits.{distance_most, fraction_den_most, slack_num_most}
 use Rattle.exact.specs.declared.Fraction.{Fraction}
-use Rattle.single_fractions.specs.declared.SlackAnswer.TheVariants.{Slack}
+use Rattle.std.specs.Prelude.{Ok}
 use Rattle.exact.specs.Fraction.{whole}
 use Rattle.single_fractions.specs.Places.{within_places}
 use Rattle.exact.specs.Slack.{Measurable, gcd_of, lowest_of, difference, slack_between}
@@ -86,7 +86,7 @@ given_fits l r g = go (within_places l.num l.den) (within_places r.num r.den) (w
   where
     go :
         (s t u : Bool) → within_places l.num l.den ≡ s → within_places r.num r.den ≡ t → within_distance g ≡ u
-        → FractionFits (slack_given (cond (s && t) (cond u (Slack (slack_between l r g)) (refusal 8)) (refusal 12)))
+        → FractionFits (slack_given (cond (s && t) (cond u (Ok (slack_between l r g)) (refusal 8)) (refusal 12)))
     go true true true e f h =
         between_fits l r g (place_measurable l e) (place_measurable r f) (leb-true (nat_abs g) distance_most h)
     go true true false e f h = zero_fits

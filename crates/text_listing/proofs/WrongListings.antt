@@ -6,7 +6,7 @@ use Prim.Native.Nat.{ℕ}
 use native.Mathlib.Omega.{arith}
 use lib.ListN.{length, get_or, replicate}
 use lib.IntN.{ℤ, pos, negsuc, nat_abs}
-use Rattle.ground.specs.declared.Answer.TheVariants.{Placed}
+use Rattle.std.specs.Prelude.{Ok}
 use Rattle.exact.specs.declared.Fraction.{Fraction}
 use Rattle.exact.specs.Fraction.{whole}
 use Rattle.single_fractions.specs.Places.{within_places}
@@ -17,7 +17,6 @@ use Rattle.single_fractions.specs.Slack.{slack_answer}
 use Rattle.text_rows.specs.Bytes.{bytes}
 use Rattle.text_rows.specs.Numeral.{digits_of}
 use Rattle.text_rows.specs.Taking.{no_field}
-use Rattle.text_listing.specs.declared.Listed.TheVariants.{Written}
 use Rattle.text_listing.specs.Listing.{unit_of, place_record, place_records, printed_slack, refused_record, slack_record, slack_records}
 use Rattle.text_listing.specs.Listing.{Listable, listing, listed_as, not_listed, listed_in}
 use Rattle.text_listing.proofs.Samples.{first_record, second_record, slack_record_sample, run}
@@ -60,12 +59,12 @@ unit_past = refl
 -- ---- the slacks
 
 -- they do not stand in front of the places
-pub slacks_first : listing Placed no_field run ≢ slack_record_sample ++ first_record ++ second_record
+pub slacks_first : listing (Ok tt) no_field run ≢ slack_record_sample ++ first_record ++ second_record
 unfolding place_records place_record slack_records slack_record printed_slack slack_answer lowest_of euclid digits_of unit_of rounded round_half_up within_places
 slacks_first = differ 0 (λ e. omega arith)
 
 -- no gap is left out
-pub gap_missed : listing Placed no_field run ≢ first_record ++ second_record
+pub gap_missed : listing (Ok tt) no_field run ≢ first_record ++ second_record
 unfolding place_records place_record slack_records slack_record printed_slack slack_answer lowest_of euclid digits_of unit_of rounded round_half_up within_places
 gap_missed = longer (λ e. omega arith)
 
@@ -123,12 +122,12 @@ abbrev one : Listable
 one = record { place_num = pos 9 ∷ []; place_den = pos 2 ∷ []; left = 0 ∷ []; right = 0 ∷ []; distance = pos 0 ∷ [] }
 
 -- a buffer of the listing's length is written
-pub long_enough : listed_in Placed no_field one (replicate 28 0) ≡ listed_as (Written 28) (bytes "place,0,9,2,5\r\nslack,0,0,1\r\n")
+pub long_enough : listed_in (Ok tt) no_field one (replicate 28 0) ≡ listed_as (Ok 28) (bytes "place,0,9,2,5\r\nslack,0,0,1\r\n")
 unfolding listed_in place_records place_record slack_records slack_record printed_slack slack_answer lowest_of euclid digits_of unit_of rounded round_half_up within_places
 long_enough = refl
 
 -- a buffer one byte short is refused with 4 and stays
-pub one_byte_short : listed_in Placed no_field one (replicate 27 0) ≡ not_listed 4 (replicate 27 0)
+pub one_byte_short : listed_in (Ok tt) no_field one (replicate 27 0) ≡ not_listed 4 (replicate 27 0)
 unfolding listed_in place_records place_record slack_records slack_record printed_slack slack_answer lowest_of euclid digits_of unit_of rounded round_half_up within_places
 one_byte_short = refl
 
@@ -143,19 +142,19 @@ zeros labels gaps right distance = record {
 }
 
 -- 193 gaps are refused with 2, but after 49 labels with 1; the buffer stays
-pub too_many_gaps : listed_in Placed no_field (zeros 1 193 193 193) (replicate 3 7) ≡ not_listed 2 (replicate 3 7)
+pub too_many_gaps : listed_in (Ok tt) no_field (zeros 1 193 193 193) (replicate 3 7) ≡ not_listed 2 (replicate 3 7)
 unfolding listed_in
 too_many_gaps = refl
 
-pub labels_first : listed_in Placed no_field (zeros 49 193 193 193) (replicate 3 7) ≡ not_listed 1 (replicate 3 7)
+pub labels_first : listed_in (Ok tt) no_field (zeros 49 193 193 193) (replicate 3 7) ≡ not_listed 1 (replicate 3 7)
 unfolding listed_in
 labels_first = refl
 
 -- right labels or distances that are not as many as the left labels are refused with 3
-pub right_short : listed_in Placed no_field (zeros 1 2 1 2) (replicate 3 7) ≡ not_listed 3 (replicate 3 7)
+pub right_short : listed_in (Ok tt) no_field (zeros 1 2 1 2) (replicate 3 7) ≡ not_listed 3 (replicate 3 7)
 unfolding listed_in
 right_short = refl
 
-pub distance_long : listed_in Placed no_field (zeros 1 2 2 3) (replicate 3 7) ≡ not_listed 3 (replicate 3 7)
+pub distance_long : listed_in (Ok tt) no_field (zeros 1 2 2 3) (replicate 3 7) ≡ not_listed 3 (replicate 3 7)
 unfolding listed_in
 distance_long = refl

@@ -1,7 +1,7 @@
 -- The listing (document 01, "Sheet text"): "the word place, label number, numerator, denominator, whole unit", and
 -- "after the places, one record per gap in number order: the word slack, gap number, numerator, denominator" (document
 -- 02, Item 1); or "refused, number, place" and the bad field (Item 5); every record ended by CRLF.
-use Rattle.std.specs.Prelude.{ℕ, zero, suc, ◌≤◌, ◌≡◌, Bool, cond, ◌&&◌, List, [], ◌++◌, eqb, ltb, leb, length, drop, ℤ, pos}
+use Rattle.std.specs.Prelude.{ℕ, zero, suc, ◌≤◌, ◌≡◌, Bool, cond, ◌&&◌, List, [], ◌++◌, eqb, ltb, leb, length, drop, ℤ, pos, Result, Ok, Err}
 use Rattle.std.specs.Borrow.{Bor}
 use Rattle.ground.specs.declared.Refusal.{Refusal}
 use Rattle.exact.specs.declared.Fraction.{Fraction}
@@ -9,14 +9,11 @@ use Rattle.exact.specs.Fraction.{fraction_at, whole}
 use Rattle.single_fractions.specs.declared.Ties.TheVariants.{Up}
 use Rattle.single_fractions.specs.Round.{rounded, whole_of}
 use Rattle.single_fractions.specs.Slack.{slack_answer, slack_given}
-use Rattle.ground.specs.declared.Answer.{Answer}
-use Rattle.ground.specs.declared.Answer.TheVariants.{Placed, Refused}
-use Rattle.text_listing.specs.declared.Listed.{Listed}
-use Rattle.text_listing.specs.declared.Listed.TheVariants as listed
+use Rattle.text_listing.specs.declared.lent.Lent.{Lent}
 use Rattle.text_rows.specs.Bytes.{bytes}
 use Rattle.text_rows.specs.Lines.{next, record_end, record_of}
 use Rattle.text_rows.specs.Numeral.{decimal, signed_decimal}
-use Rattle.ground.specs.Answers.{refused_at}
+use Rattle.ground.specs.Answers.{Answer, refused_at}
 use Rattle.ground.specs.Entries.{nat, int}
 use Rattle.ground.specs.Limits.{labels_most, gaps_most}
 use Rattle.ground.specs.Views.{Param}
@@ -45,6 +42,10 @@ listable_now place_num place_den left right distance =
 abbrev pub listable_lent : (place_num place_den : Param ℤ) (left right : Param ℕ) (distance : Param ℤ) → Listable
 listable_lent place_num place_den left right distance =
     listable_now place_num.entry place_den.entry left.entry right.entry distance.entry
+
+-- the same of lists that travel together
+abbrev pub listable_of : Lent → Listable
+listable_of l = listable_now l.place_num l.place_den l.left l.right l.distance
 
 -- bytes of a label's record, of a gap's and of a refused record, at most; and room for a whole listing, with some to
 -- spare for the records of later requests (`length_listing` in proofs/Size)
@@ -128,26 +129,30 @@ refused_record r field = record_of refused_word (decimal r.number) (decimal r.pl
 
 -- the listing of an answer; a field is printed as it is handed, and that of a run is right by `RefusedShown` (sheet_run)
 abbrev pub listing : Answer → (field : ℕ) → Listable → List ℕ
-listing Placed field l = sheet_records l
-listing (Refused r) field l = refused_record r field
+listing (Ok _) field l = sheet_records l
+listing (Err r) field l = refused_record r field
+
+-- the writer's answer: so many bytes written, or a refusal
+abbrev pub Listed : Type 0
+Listed = Result ℕ Refusal
 
 -- document 01's number for each case of the writer's answer and its place, and the count of bytes written:
 -- number and place are 0 for a listing that is written, the count is 0 for one that is refused
 abbrev pub number_of : Listed → ℕ
-number_of (listed.Written bytes) = 0
-number_of (listed.Refused r) = r.number
+number_of (Ok bytes) = 0
+number_of (Err r) = r.number
 
 abbrev pub refused_place : Listed → ℕ
-refused_place (listed.Written bytes) = 0
-refused_place (listed.Refused r) = r.place
+refused_place (Ok bytes) = 0
+refused_place (Err r) = r.place
 
 abbrev pub bytes_of : Listed → ℕ
-bytes_of (listed.Written bytes) = bytes
-bytes_of (listed.Refused r) = 0
+bytes_of (Ok bytes) = bytes
+bytes_of (Err r) = 0
 
 -- a refusal of the writer, whose place is 0
 abbrev pub refusal : ℕ → Listed
-refusal number = listed.Refused (refused_at number 0)
+refusal number = Err (refused_at number 0)
 
 -- an answer with the buffer afterwards
 pub record Listing : Type 0 where
@@ -164,7 +169,7 @@ not_listed number b = listed_as (refusal number) b
 abbrev pub laid : List ℕ → List ℕ → Listing
 laid text b =
     cond (leb (length text) (length b))
-    (listed_as (listed.Written (length text)) (text ++ drop (length text) b))
+    (listed_as (Ok (length text)) (text ++ drop (length text) b))
     (not_listed 4 b)
 
 -- whether lists that belong together are as many
@@ -183,8 +188,8 @@ pub record Within (l : Listable) : Type 0 where
 
 -- for a placed sheet 1 for too many labels, then 2 for too many gaps, then 3 for lists that are not as many; 4 for either
 unfoldable pub listed_in : Answer → (field : ℕ) → Listable → List ℕ → Listing
-listed_in (Refused r) field l b = laid (refused_record r field) b
-listed_in Placed field l b =
+listed_in (Err r) field l b = laid (refused_record r field) b
+listed_in (Ok _) field l b =
     cond (ltb labels_most (labels_in l)) (not_listed 1 b)
     (cond (ltb gaps_most (gaps_in l)) (not_listed 2 b)
     (cond (even l) (laid (sheet_records l) b) (not_listed 3 b)))

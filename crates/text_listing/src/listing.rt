@@ -1,92 +1,57 @@
 // The listing of an answer: a record for each label and for each gap, or the refused record.
-ghost use Rattle.std.specs.Prelude.{◌≡◌, ◌+◌, ◌*◌, ◌<◌, ◌≤◌, length};
-ghost use Rattle.ground.specs.declared.Answer.TheVariants.{Placed};
+ghost use Rattle.std.specs.Prelude.{Ok, ◌≡◌, [], take, ◌+◌, ◌*◌, ◌<◌, ◌≤◌, length};
 ghost use Rattle.text_listing.specs.Appended.{Appended};
-ghost use Rattle.text_rows.specs.Lines.{record_end};
 ghost use Rattle.text_rows.specs.Taking.{no_field};
-ghost use Rattle.text_listing.specs.Listing.{place_room, refused_room, listing_room, laid, listed_as, listed_in, refusal};
-ghost use Rattle.text_listing.specs.Listing.{Within, even, listable_lent, listable_now};
-ghost use Rattle.text_listing.specs.Listing.{place_record, place_records, refused_record, sheet_records, unit_at, unit_of};
+ghost use Rattle.text_listing.specs.Listing.{place_room, listing_room, laid, listed_as, listed_in};
+ghost use Rattle.text_listing.specs.Listing.{listable_lent, listable_of};
+ghost use Rattle.text_listing.specs.Listing.{place_record, place_records, refused_record, unit_at, unit_of};
 ghost use Rattle.ground.specs.Limits.{labels_most};
 
-use crate::digits::{put_byte, put_number_field, put_signed_field, put_word};
+use crate::lent::Lent;
 use crate::slacks::put_slacks;
+use crate::text::Text;
 use crate::{LISTING_ROOM, Listed, REFUSED_ROOM};
 use ground::limits::{GAPS, LABELS};
+use ground::rules::Rule;
 use ground::{Answer, Label, Refusal};
 use single_fractions::Ties;
 use single_fractions::round::round;
-
-// Puts the end of a record.
-pub(crate) fn put_end(buf: &mut [u8], at: usize) -> usize
-    requires { at + length record_end ≤ length buf.old }
-    ensures { Appended buf.old at record_end buf.new result }
-{
-    let end = put_byte(buf, at, b'\r');
-    put_byte(buf, end, b'\n')
-}
 
 // The whole unit of a fraction, halves to the larger number; 0 for one that rounding refuses.
 fn whole_unit(num: i64, den: i64) -> i64
     ensures { result ≡ unit_of num den }
 {
-    let rounded = round(Ties::Up, num, den);
-    rounded.whole()
+    round(Ties::Up, num, den).unwrap_or(0)
 }
 
 // Puts the record of a label.
-fn put_place(buf: &mut [u8], at: usize, label: Label, num: i64, den: i64) -> usize
-    requires { (label.0 < labels_most) × (at + place_room ≤ length buf.old) }
-    ensures { Appended buf.old at (place_record label.0 num den (unit_of num den)) buf.new result }
+fn put_place(text: &mut Text<LISTING_ROOM>, label: Label, num: i64, den: i64)
+    requires { (label.0 < labels_most)
+        × (length (take text.old.end text.old.bytes) + place_room ≤ listing_room) }
+    ensures { let place = place_record label.0 num den (unit_of num den) in
+        Appended (take text.old.end text.old.bytes) place (take text.new.end text.new.bytes) }
 {
-    let word = put_word(buf, at, b"place");
-    let number = put_number_field(buf, word, label.0 as u64);
-    let upper = put_signed_field(buf, number, num);
-    let lower = put_signed_field(buf, upper, den);
-    let unit = put_signed_field(buf, lower, whole_unit(num, den));
-    put_end(buf, unit)
+    text.put(b"place");
+    text.put_number(label.0 as u64);
+    text.put_signed(num);
+    text.put_signed(den);
+    text.put_signed(whole_unit(num, den));
+    text.put(b"\r\n");
 }
 
 // Puts the records of all labels.
-fn put_places(buf: &mut [u8], place_num: &[i64], place_den: &[i64]) -> usize
+fn put_places(text: &mut Text<LISTING_ROOM>, place_num: &[i64], place_den: &[i64])
     requires { (length place_num.now ≤ labels_most)
         × (length place_den.now ≡ length place_num.now)
-        × (labels_most * place_room ≤ length buf.old) }
+        × (take text.old.end text.old.bytes ≡ []) }
     ensures { let nums = place_num.now in
         let dens = place_den.now in
-        Appended buf.old 0 (place_records (length nums) nums dens (unit_at nums dens)) buf.new result
-        × (result ≤ labels_most * place_room) }
+        (take text.new.end text.new.bytes ≡ place_records (length nums) nums dens (unit_at nums dens))
+        × (length (take text.new.end text.new.bytes) ≤ labels_most * place_room) }
 {
-    let mut at: usize = 0;
-    let mut label: usize = 0;
-    while label < place_num.len() {
-        at = put_place(buf, at, Label(label), place_num[label], place_den[label]);
-        label += 1;
+    for label in 0..place_num.len() {
+        put_place(text, Label(label), place_num[label], place_den[label]);
     }
-    at
-}
-
-// Puts the record of a refused sheet, with the field as it is told.
-fn put_refused(buf: &mut [u8], refusal: Refusal, field: usize) -> usize
-    requires { refused_room ≤ length buf.old }
-    ensures { Appended buf.old 0 (refused_record refusal field) buf.new result }
-{
-    let word = put_word(buf, 0, b"refused");
-    let second = put_number_field(buf, word, refusal.number as u64);
-    let third = put_number_field(buf, second, refusal.place as u64);
-    let fourth = put_number_field(buf, third, field as u64);
-    put_end(buf, fourth)
-}
-
-// A refusal of the listing, whose place is 0.
-fn refused(number: usize) -> Listed
-    ensures { result ≡ refusal number }
-{
-    Listed::Refused(Refusal {
-        number,
-        place: 0,
-        ring: 0,
-    })
 }
 
 // Lays a text over the front of a buffer, or refuses a buffer that is too short.
@@ -94,89 +59,49 @@ fn lay(text: &[u8], out: &mut [u8]) -> Listed
     ensures { listed_as result out.new ≡ laid text.now out.old }
 {
     if out.len() < text.len() {
-        return refused(4);
+        return Err(Refusal::at(Rule::Room, 0));
     }
-    let end = put_word(out, 0, text);
-    Listed::Written(end)
-}
-
-// Puts the records of a sheet: its places, then its slacks.
-fn put_sheet(
-    buf: &mut [u8],
-    place_num: &[i64],
-    place_den: &[i64],
-    left: &[usize],
-    right: &[usize],
-    distance: &[i64],
-) -> usize
-    requires { let l = listable_now place_num place_den left right distance in
-        Within l × (listing_room ≤ length buf.old) }
-    ensures { let l = listable_lent place_num place_den left right distance in
-        Appended buf.old 0 (sheet_records l) buf.new result }
-{
-    let end = put_places(buf, place_num, place_den);
-    put_slacks(buf, end, place_num, place_den, left, right, distance)
-}
-
-// Whether lists that belong together are as many.
-fn is_even(
-    place_num: &[i64],
-    place_den: &[i64],
-    left: &[usize],
-    right: &[usize],
-    distance: &[i64],
-) -> bool
-    ensures { let l = listable_lent place_num place_den left right distance in
-        result ≡ even l }
-{
-    if place_den.len() != place_num.len() {
-        return false;
-    }
-    if right.len() != left.len() {
-        return false;
-    }
-    distance.len() == left.len()
+    out[..text.len()].copy_from_slice(text);
+    Ok(text.len())
 }
 
 // The listing of a placed sheet.
-fn list_sheet(
-    place_num: &[i64],
-    place_den: &[i64],
-    left: &[usize],
-    right: &[usize],
-    distance: &[i64],
-    out: &mut [u8],
-) -> Listed
-    ensures { let l = listable_lent place_num place_den left right distance in
-        listed_as result out.new ≡ listed_in Placed no_field l out.old }
+fn list_sheet(lent: Lent, out: &mut [u8]) -> Listed
+    ensures { listed_as result out.new ≡ listed_in (Ok tt) no_field (listable_of lent.entry) out.old }
 {
-    if LABELS < place_num.len() {
-        return refused(1);
+    if LABELS < lent.place_num.len() {
+        return Err(Refusal::at(Rule::Labels, 0));
     }
-    if GAPS < left.len() {
-        return refused(2);
+    if GAPS < lent.left.len() {
+        return Err(Refusal::at(Rule::Gaps, 0));
     }
-    if !is_even(place_num, place_den, left, right, distance) {
-        return refused(3);
+    if !lent.is_even() {
+        return Err(Refusal::at(Rule::Lengths, 0));
     }
-    let mut text = [0u8; LISTING_ROOM];
-    let end = put_sheet(&mut text, place_num, place_den, left, right, distance);
-    lay(&text[..end], out)
+    let mut text = Text::<LISTING_ROOM>::new();
+    put_places(&mut text, lent.place_num, lent.place_den);
+    put_slacks(&mut text, lent);
+    lay(text.as_bytes(), out)
 }
 
 // The listing of a refused sheet.
 fn list_refused(refusal: Refusal, field: usize, out: &mut [u8]) -> Listed
     ensures { listed_as result out.new ≡ laid (refused_record refusal field) out.old }
 {
-    let mut text = [0u8; REFUSED_ROOM];
-    let end = put_refused(&mut text, refusal, field);
-    lay(&text[..end], out)
+    let mut text = Text::<REFUSED_ROOM>::new();
+    text.put(b"refused");
+    text.put_number(refusal.number as u64);
+    text.put_number(refusal.place as u64);
+    text.put_number(field as u64);
+    text.put(b"\r\n");
+    lay(text.as_bytes(), out)
 }
 
 // Writes the listing of an answer to the front of the buffer. A refusal's field is printed as it is handed: that of a
 // refused text, or none.
 // For a placed sheet 1: more than 48 labels. 2: more than 192 gaps. 3: lists that belong together differ in length.
 // For any answer 4: the buffer is too short.
+// The lists are lent one by one, as the C interface lends them; a field is a number, since any may be printed.
 pub fn write_listing(
     answer: Answer,
     field: usize,
@@ -191,8 +116,15 @@ pub fn write_listing(
         (result ≡ (listed_in answer field l out.old).answer)
         × (out.new ≡ (listed_in answer field l out.old).buffer) }
 {
+    let lent = Lent {
+        place_num,
+        place_den,
+        left,
+        right,
+        distance,
+    };
     match answer {
-        Answer::Placed => list_sheet(place_num, place_den, left, right, distance, out),
-        Answer::Refused(refusal) => list_refused(refusal, field, out),
+        Ok(()) => list_sheet(lent, out),
+        Err(refusal) => list_refused(refusal, field, out),
     }
 }

@@ -15,7 +15,7 @@ use Rattle.ground.specs.declared.GapRecord.{GapRecord}
 use Rattle.ground.specs.Entries.{no_record, Each}
 use Rattle.ground.specs.Limits.{gaps_most, labels_most, weight_least, weight_most}
 use Rattle.text_rows.specs.declared.LabelRow.{LabelRow}
-use Rattle.text_reading.specs.declared.Reading.TheVariants.{Sheet}
+use Rattle.std.specs.Prelude.{Ok}
 use Rattle.text_rows.specs.Lines.{lines}
 use Rattle.text_rows.specs.Numeral.{digits_most}
 use Rattle.text_reading.specs.Texts.{text_most, Typed, nothing_typed, earlier_of, sheet, read_from, outcome, Lists, filled, room_for, counts_of, reading}
@@ -123,7 +123,7 @@ module _ (t : Typed) (lim : InLimits t) where
 -- the text of a sheet within the limits is read back, wherever the lists have room
 pub read_back :
     (t : Typed) → InLimits t → (b : Lists) → room_for t b ≡ true → reading (printed t) b ≡ record {
-      answer = Sheet (counts_of t);
+      answer = Ok (counts_of t);
       lists = filled t b;
     }
 unfolding reading

@@ -4,10 +4,9 @@ use mathlib.Core.Path.{subst}
 use mathlib.Core.List.{List, [], ◌∷◌}
 use native.Mathlib.Omega.{arith}
 use Rattle.text_rows.specs.declared.Row.{Row}
-use Rattle.text_rows.specs.declared.Taken.{Taken}
-use Rattle.text_rows.specs.declared.Taken.TheVariants.{Good, Bad}
+use Rattle.std.specs.Prelude.{Ok, Err}
 use Rattle.text_rows.specs.Lines.{lines}
-use Rattle.text_rows.specs.Taking.{FieldTold, refusal_field, refusal_number, taken}
+use Rattle.text_rows.specs.Taking.{FieldTold, refusal_field, refusal_number, Taken, taken}
 use Rattle.text_rows.proofs.BadLines.{no_field_lem, taken_told}
 use Rattle.text_reading.specs.Readings.{field_of, number_of}
 use Rattle.text_reading.specs.Texts.{Done, Lists, Outcome, Typed, add, bad_line, earlier_of, follow, nothing_typed, read_from, reading, sheet}
@@ -26,8 +25,8 @@ line_told (l ∷ ls) n t = go (taken (earlier_of t) l) (taken_told (earlier_of t
     go :
         (k : Taken) → FieldTold (refusal_number k) (refusal_field k) → ((row : Row) → LineTold (read_from ls (suc n) (add t row)))
         → LineTold (follow k n t (read_from ls (suc n)))
-    go (Bad number field) told later = told
-    go (Good row) told later = later row
+    go (Err b) told later = told
+    go (Ok row) told later = later row
 
 abbrev DoneTold : Done → Type 0
 DoneTold d = FieldTold (number_of d.answer) (field_of d.answer)

@@ -10,10 +10,9 @@ use Rattle.ground.specs.Kinds.{exactly_byte}
 use Rattle.text_rows.specs.declared.Earlier.{Earlier}
 use Rattle.text_rows.specs.declared.Row.{Row}
 use Rattle.text_rows.specs.declared.Row.TheVariants.{Label, Gap}
-use Rattle.text_rows.specs.declared.Taken.{Taken}
-use Rattle.text_rows.specs.declared.Taken.TheVariants.{Good, Bad}
+use Rattle.std.specs.Prelude.{Ok, Err}
 use Rattle.text_rows.specs.Lines.{lines}
-use Rattle.text_rows.specs.Taking.{taken}
+use Rattle.text_rows.specs.Taking.{Taken, taken}
 use Rattle.text_rows.proofs.LineCases.{taken_cases}
 use Rattle.text_reading.specs.Readings.{gaps_of}
 use Rattle.text_reading.specs.Texts.{Done, Lists, Outcome, Typed, add, bad_line, earlier_of, filled, follow, nothing_typed, read_from, reading, sheet}
@@ -30,8 +29,8 @@ KnownRow (Gap g) = Known g
 
 -- of every line that is taken
 abbrev KnownTaken : Taken → Type 0
-KnownTaken (Good row) = KnownRow row
-KnownTaken (Bad number field) = Unit {0}
+KnownTaken (Ok row) = KnownRow row
+KnownTaken (Err b) = Unit {0}
 
 taken_known : (earlier : Earlier) (line : List ℕ) → KnownTaken (taken earlier line)
 taken_known earlier line =
@@ -57,8 +56,8 @@ outcome_known (l ∷ ls) n t h =
     go :
         (k : Taken) → KnownTaken k → ((row : Row) → KnownRow row → KnownOutcome (read_from ls (suc n) (add t row)))
         → KnownOutcome (follow k n t (read_from ls (suc n)))
-    go (Bad number field) known later = tt
-    go (Good row) known later = later row known
+    go (Err b) known later = tt
+    go (Ok row) known later = later row known
 
 -- of every entry that a reading writes
 abbrev KindsKnown : Done → Type 0

@@ -8,3 +8,4 @@ pub mod FieldsTold
 pub mod KnownKinds
 pub mod Examples
 pub mod WrongReadings
+pub mod Limits

@@ -3,14 +3,14 @@ use Prim.Native.Nat.{ℕ, zero, suc, ◌+◌, ◌/◌, ◌%◌, ◌^◌, ◌≤�
 use mathlib.Core.Path.{◌≡◌, refl}
 use mathlib.Core.Bool.{Bool, true, false, cond}
 use mathlib.Core.List.{List, [], ◌∷◌, ◌++◌}
-use mathlib.Core.Option.{some}
+use Rattle.std.specs.Prelude.{Some, option_map}
 use native.Mathlib.Omega.{arith}
 use lib.Dec.{ltb}
 use lib.ListN.{length, get_or, length-append}
 use lib.IntN.{ℤ, pos, negsuc, nat_abs}
 use lib.Signed.{◌≤ℤ◌}
 use borrow.Author.Tests.{ltb-true, le-leb, ne_eqb}
-use Rattle.text_rows.specs.Numeral.{digit_zero, digit_nine, minus, all_digits, value_of, digits_most, number, option_map, signed, weight_of, digits_of, decimal_most, decimal, signed_decimal}
+use Rattle.text_rows.specs.Numeral.{digit_zero, digit_nine, minus, all_digits, value_of, digits_most, number, signed, weight_of, digits_of, decimal_most, decimal, signed_decimal}
 use Rattle.text_rows.proofs.DigitLaws.{value_append}
 use Rattle.text_rows.proofs.Decimal.{length_decimal}
 use Rattle.ground.proofs.Each.{each_map}
@@ -82,7 +82,7 @@ unfolding all_digits
 all_digits_lem [] h = refl
 all_digits_lem (b ∷ bs) h = rw (le-leb digit_zero b h.0.0, le-leb b digit_nine h.0.1) (all_digits_lem bs h.1)
 
-pub number_back : (n : ℕ) → n < 10 ^ digits_most → number (decimal n) ≡ some n
+pub number_back : (n : ℕ) → n < 10 ^ digits_most → number (decimal n) ≡ Some n
 unfolding number
 number_back n h =
     rw (
@@ -99,7 +99,7 @@ unfolding signed number
 signed_digits [] h = refl
 signed_digits (b ∷ bs) h = rw (ne_eqb b minus (omega arith))
 
-pub signed_back : (z : ℤ) → nat_abs z < 10 ^ digits_most → signed (signed_decimal z) ≡ some z
+pub signed_back : (z : ℤ) → nat_abs z < 10 ^ digits_most → signed (signed_decimal z) ≡ Some z
 unfolding signed
 signed_back (pos n) h = rw (signed_digits _ (digits_only decimal_most n), number_back n h)
 signed_back (negsuc n) h = rw (number_back (suc n) h)
@@ -110,7 +110,7 @@ unfolding weight_of
 weight_digits [] h = absurd (omega arith)
 weight_digits (b ∷ bs) h = refl
 
-pub weight_back : (z : ℤ) → pos 0 ≤ℤ z → nat_abs z < 10 ^ digits_most → weight_of (signed_decimal z) ≡ some z
+pub weight_back : (z : ℤ) → pos 0 ≤ℤ z → nat_abs z < 10 ^ digits_most → weight_of (signed_decimal z) ≡ Some z
 weight_back (pos n) l h = rw (weight_digits _ (digits_least 19 n), number_back n h)
 weight_back (negsuc n) l h = absurd l.le
 

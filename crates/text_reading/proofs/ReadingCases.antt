@@ -7,7 +7,7 @@ use borrow.Author.Tests.{ltb-false}
 use lib.Dec.{ltb}
 use lib.ListN.{length}
 use Rattle.text_rows.specs.Taking.{no_field}
-use Rattle.text_reading.specs.declared.Reading.TheVariants.{Sheet}
+use Rattle.std.specs.Prelude.{Ok}
 use Rattle.text_reading.specs.Texts.{Done, Lists, Outcome, Typed, bad_line, counts_of, filled, judged, outcome, reading, refused_with, room_for, settled, sheet, text_most}
 use Rattle.ground.specs.Limits.{gaps_most, labels_most}
 
@@ -20,13 +20,13 @@ pub record WholeText (P : Done → Type 0) (b : Lists) : Type 0 where
 
 module _ (P : Done → Type 0) (b : Lists) (whole : WholeText P b) where
   settled_cases : (t : Typed) → (length t.labels ≤ labels_most → length t.gaps ≤ gaps_most
-      → P (record { answer = Sheet (counts_of t); lists = filled t b })) → P (settled t b)
+      → P (record { answer = Ok (counts_of t); lists = filled t b })) → P (settled t b)
   settled_cases t read = go (ltb labels_most (length t.labels)) refl (ltb gaps_most (length t.gaps)) refl (room_for t b)
     where
       go :
           (crowded : Bool) → ltb labels_most (length t.labels) ≡ crowded → (gapped : Bool) → ltb gaps_most (length t.gaps) ≡ gapped
           → (room : Bool) → P (cond crowded (refused_with 1 0 no_field b) (cond gapped (refused_with 2 0 no_field b)
-          (cond room (record { answer = Sheet (counts_of t); lists = filled t b }) (refused_with 4 0 no_field b))))
+          (cond room (record { answer = Ok (counts_of t); lists = filled t b }) (refused_with 4 0 no_field b))))
       go true e gapped g room = whole.crowded
       go false e true g room = whole.over_gapped
       go false e false g false = whole.short_room
@@ -36,7 +36,7 @@ module _ (P : Done → Type 0) (b : Lists) (whole : WholeText P b) where
       (text : List ℕ)
       → (length text ≤ text_most → (n number field : ℕ) → outcome text ≡ bad_line n number field → P (refused_with number n field b))
       → ((t : Typed) → outcome text ≡ sheet t → length t.labels ≤ labels_most → length t.gaps ≤ gaps_most
-      → P (record { answer = Sheet (counts_of t); lists = filled t b }))
+      → P (record { answer = Ok (counts_of t); lists = filled t b }))
       → P (reading text b)
   unfolding reading
   reading_cases text bad read = go (ltb text_most (length text)) refl

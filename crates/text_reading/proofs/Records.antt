@@ -12,7 +12,7 @@ use Rattle.ground.specs.declared.GapRecord.{GapRecord}
 use Rattle.text_rows.specs.declared.Earlier.{Earlier}
 use Rattle.text_rows.specs.declared.LabelRow.{LabelRow}
 use Rattle.text_rows.specs.declared.Row.TheVariants.{Label, Gap}
-use Rattle.text_rows.specs.declared.Taken.TheVariants.{Good}
+use Rattle.std.specs.Prelude.{Ok}
 use Rattle.text_rows.specs.Lines.{line_feed, carriage_return, comma, lines, fields, next, line_of, record_of}
 use Rattle.text_rows.specs.Numeral.{digits_most, decimal, signed_decimal}
 use Rattle.text_rows.specs.Taking.{same_bytes, label_word, kind_word, gap_row, row_of, taken}
@@ -148,7 +148,7 @@ lines_gap g rest = lines_record (gap_fields g) rest
 
 -- the record of the next label is taken as that label
 pub taken_label :
-    (i : ℕ) (r : LabelRow) → i < 10 ^ digits_most → LabelFits r → taken (record { labels = i }) (label_line i r) ≡ Good (Label r)
+    (i : ℕ) (r : LabelRow) → i < 10 ^ digits_most → LabelFits r → taken (record { labels = i }) (label_line i r) ≡ Ok (Label r)
 unfolding row_of same_bytes
 taken_label i r h f =
     rw (
@@ -168,7 +168,7 @@ row_kind earlier (suc zero) h a b c = refl
 row_kind earlier (suc (suc k)) h a b c = absurd (omega arith)
 
 -- a gap's record is taken as that gap, whatever came before
-pub taken_gap : (earlier : Earlier) (g : GapRecord) → GapFits g → taken earlier (gap_line g) ≡ Good (Gap g)
+pub taken_gap : (earlier : Earlier) (g : GapRecord) → GapFits g → taken earlier (gap_line g) ≡ Ok (Gap g)
 taken_gap earlier g f =
     rw (
       line_fields (gap_fields g),

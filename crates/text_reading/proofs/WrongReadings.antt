@@ -12,9 +12,9 @@ use Rattle.text_rows.specs.Bytes.{bytes}
 use Rattle.text_rows.specs.Lines.{lines, fields}
 use Rattle.text_rows.specs.Numeral.{all_digits, value_of, number, signed, weight_of}
 use Rattle.text_rows.specs.Taking.{no_field, same_bytes, row_of}
-use Rattle.text_reading.specs.declared.Reading.TheVariants.{Sheet}
+use Rattle.std.specs.Prelude.{Ok}
 use Rattle.text_reading.specs.Texts.{text_most, Typed, Outcome, bad_line, sheet, read_from, outcome, Lists, filled, room_for, refused_with, judged, reading}
-use Rattle.text_reading.specs.Readings.{refusal}
+use Rattle.text_reading.specs.Readings.{unread}
 use Rattle.text_reading.proofs.Examples.{document_text, joined_text}
 use Rattle.text_reading.proofs.ReadLaws.{long_text, short_text}
 
@@ -66,7 +66,7 @@ zero_typed = refl
 
 -- 16,385 bytes are refused with 11, whatever they are
 pub one_byte_more : (text : List ℕ) (b : Lists) → length text ≡ suc text_most → reading text b ≡ refused_with 11 0 no_field b
-one_byte_more text b e = sym (long_text text b (refusal 11 0 no_field) (omega arith) refl)
+one_byte_more text b e = sym (long_text text b (unread 11 0 no_field) (omega arith) refl)
 
 -- 16,384 bytes are read
 pub no_byte_more : (text : List ℕ) (b : Lists) → length text ≡ text_most → reading text b ≡ judged (outcome text) b
@@ -143,7 +143,7 @@ room = record {
   kind = replicate gaps_most 0;
 }
 
-pub exact_once : (judged (sheet (exacts gaps_most)) room).answer ≡ Sheet (record { labels = 0; gaps = gaps_most })
+pub exact_once : (judged (sheet (exacts gaps_most)) room).answer ≡ Ok (record { labels = 0; gaps = gaps_most })
 unfolding room_for
 exact_once = refl
 

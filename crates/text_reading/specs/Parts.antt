@@ -1,16 +1,13 @@
 -- What the parts of the reader promise to each other.
-use Rattle.std.specs.Prelude.{ℕ, ◌+◌, ◌≤◌, ◌≡◌, Bool, cond, ◌&&◌, List, map, ltb, leb, length, take, set}
+use Rattle.std.specs.Prelude.{ℕ, ◌+◌, ◌≤◌, ◌≡◌, min, cond, ◌&&◌, List, map, ltb, leb, length, take, set, Result, Ok, Err}
 use Rattle.text_rows.specs.declared.Row.{Row}
 use Rattle.text_rows.specs.declared.Row.TheVariants.{Label, Gap}
 use Rattle.text_rows.specs.Taking.{no_field}
 use Rattle.text_reading.specs.declared.Counts.{Counts}
-use Rattle.text_reading.specs.declared.Reading.{Reading}
-use Rattle.text_reading.specs.declared.Reading.TheVariants.{Sheet, Refused}
-use Rattle.text_reading.specs.declared.read.Room.{Room}
-use Rattle.text_reading.specs.Readings.{refusal}
+use Rattle.text_reading.specs.declared.Unread.{Unread}
+use Rattle.text_reading.specs.Readings.{Reading, refusal, unread}
 use Rattle.text_reading.specs.Texts.{Typed, Outcome, bad_line, sheet, Lists, Done, counts_of, reading}
 use Rattle.ground.specs.Limits.{gaps_most, labels_most}
-use Rattle.ground.specs.Entries.{over}
 
 -- a work array with a value stored at k where there is room
 abbrev pub stored : {A : Type 0} → (room k : ℕ) → A → List A → List A
@@ -70,56 +67,28 @@ pub record Held (t : Typed) (w : Lists) : Type 0 where
 -- the answer of the loop over the lines
 abbrev pub ScannedBy : Outcome → Reading → Lists → Type 0
 ScannedBy (bad_line n number field) r w = r ≡ refusal number n field
-ScannedBy (sheet t) r w = (r ≡ Sheet (counts_of t)) × Held t w
+ScannedBy (sheet t) r w = (r ≡ Ok (counts_of t)) × Held t w
 
--- whether each lent list has an entry for every label or gap
-abbrev pub roomy : Counts → Room → Bool
-roomy c room =
-    leb c.labels room.wanted
-    && leb c.labels room.weight
-    && leb c.gaps room.left
-    && leb c.gaps room.right
-    && leb c.gaps room.distance
-    && leb c.gaps room.kind
+-- how many labels and gaps the lent lists have room for
+abbrev pub room_of : Lists → Counts
+room_of b = record {
+  labels = min (length b.wanted) (length b.weight);
+  gaps = min (min (min (length b.left) (length b.right)) (length b.distance)) (length b.kind);
+}
+
+-- counts that pass 1, 2 and 4
+pub record Fitting (c room : Counts) : Type 0 where
+  pub labels : c.labels ≤ labels_most
+  pub gaps : c.gaps ≤ gaps_most
+  pub label_room : c.labels ≤ room.labels
+  pub gap_room : c.gaps ≤ room.gaps
 
 -- 1, 2, then 4, by the counts
-unfoldable pub judged_by : Counts → Room → Reading
+unfoldable pub judged_by : (counts room : Counts) → Result (Unit {0}) Unread
 judged_by c room =
-    cond (ltb labels_most c.labels) (refusal 1 0 no_field)
-    (cond (ltb gaps_most c.gaps) (refusal 2 0 no_field)
-    (cond (roomy c room) (Sheet c) (refusal 4 0 no_field)))
-
--- how many entries each lent list has
-abbrev pub room_of : Lists → Room
-room_of b = record {
-  wanted = length b.wanted;
-  weight = length b.weight;
-  left = length b.left;
-  right = length b.right;
-  distance = length b.distance;
-  kind = length b.kind;
-}
-
--- the first entries of each work array over the front of its lent list
-abbrev pub over_all : Counts → (work before : Lists) → Lists
-over_all c w b = record {
-  wanted = over c.labels w.wanted b.wanted;
-  weight = over c.labels w.weight b.weight;
-  left = over c.gaps w.left b.left;
-  right = over c.gaps w.right b.right;
-  distance = over c.gaps w.distance b.distance;
-  kind = over c.gaps w.kind b.kind;
-}
-
--- an answer with the lists afterwards: a refusal leaves them
-abbrev pub answered : Reading → (work before : Lists) → Done
-answered (Refused r field) w b = record { answer = Refused r field; lists = b }
-answered (Sheet c) w b = record { answer = Sheet c; lists = over_all c w b }
-
--- what is handed over: nothing where 1, 2 or 4 is met
-abbrev pub HandedOver : Counts → (work before : Lists) → Reading → (after : Lists) → Type 0
-HandedOver c w b r after =
-    ◌≡◌ {A = Done} (record { answer = r; lists = after }) (answered (judged_by c (room_of b)) w b)
+    cond (ltb labels_most c.labels) (Err (unread 1 0 no_field))
+    (cond (ltb gaps_most c.gaps) (Err (unread 2 0 no_field))
+    (cond (leb c.labels room.labels && leb c.gaps room.gaps) (Ok tt) (Err (unread 4 0 no_field))))
 
 -- the promise of the reading: its answer and the lists afterwards are the definition's
 abbrev pub ReadInto : List ℕ → (before : Lists) → Reading → (after : Lists) → Type 0

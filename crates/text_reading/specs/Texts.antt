@@ -1,18 +1,14 @@
 -- A text read into lent lists (document 01, "Sheet text" and "Refusal table"; document 02, Items 5 and 6).
-use Rattle.std.specs.Prelude.{ℕ, suc, Bool, cond, ◌&&◌, List, [], ◌∷◌, ◌++◌, map, ltb, leb, length, drop, ℤ}
+use Rattle.std.specs.Prelude.{ℕ, suc, Bool, cond, ◌&&◌, List, [], ◌∷◌, ◌++◌, map, ltb, leb, length, drop, ℤ, Ok, Err}
 use Rattle.ground.specs.declared.GapRecord.{GapRecord}
 use Rattle.text_rows.specs.declared.LabelRow.{LabelRow}
 use Rattle.text_rows.specs.declared.Row.{Row}
 use Rattle.text_rows.specs.declared.Row.TheVariants.{Label, Gap}
 use Rattle.text_rows.specs.declared.Earlier.{Earlier}
-use Rattle.text_rows.specs.declared.Taken.{Taken}
-use Rattle.text_rows.specs.declared.Taken.TheVariants.{Good, Bad}
 use Rattle.text_reading.specs.declared.Counts.{Counts}
-use Rattle.text_reading.specs.declared.Reading.{Reading}
-use Rattle.text_reading.specs.declared.Reading.TheVariants.{Sheet}
-use Rattle.text_reading.specs.Readings.{refusal}
+use Rattle.text_reading.specs.Readings.{Reading, refusal}
 use Rattle.text_rows.specs.Lines.{lines}
-use Rattle.text_rows.specs.Taking.{no_field, taken}
+use Rattle.text_rows.specs.Taking.{Taken, no_field, taken}
 use Rattle.ground.specs.Limits.{gaps_most, labels_most}
 use denote.Triple.Both.{Both}
 use Rattle.ground.specs.Views.{Param, MutParam}
@@ -43,8 +39,8 @@ pub data Outcome : Type 0 where
 
 -- "A line is taken apart as label or gap; otherwise the reading stops there"; "The first bad line still wins"
 abbrev pub follow : Taken → ℕ → Typed → (Typed → Outcome) → Outcome
-follow (Bad number field) n t next = bad_line n number field
-follow (Good row) n t next = next (add t row)
+follow (Err b) n t next = bad_line n b.number b.field
+follow (Ok row) n t next = next (add t row)
 
 unfoldable pub read_from : List (List ℕ) → ℕ → Typed → Outcome
 read_from [] n t = sheet t
@@ -105,7 +101,7 @@ abbrev pub settled : Typed → Lists → Done
 settled t b =
     cond (ltb labels_most (length t.labels)) (refused_with 1 0 no_field b)
     (cond (ltb gaps_most (length t.gaps)) (refused_with 2 0 no_field b)
-    (cond (room_for t b) (record { answer = Sheet (counts_of t); lists = filled t b }) (refused_with 4 0 no_field b)))
+    (cond (room_for t b) (record { answer = Ok (counts_of t); lists = filled t b }) (refused_with 4 0 no_field b)))
 
 -- "the line remains the place"
 abbrev pub judged : Outcome → Lists → Done

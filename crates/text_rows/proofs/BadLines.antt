@@ -4,9 +4,7 @@ use mathlib.Core.Path.{refl}
 use mathlib.Core.List.{List}
 use native.Mathlib.Omega.{arith}
 use Rattle.text_rows.specs.declared.Earlier.{Earlier}
-use Rattle.text_rows.specs.declared.Taken.{Taken}
-use Rattle.text_rows.specs.declared.Taken.TheVariants.{Bad}
-use Rattle.text_rows.specs.Taking.{FieldTold, NamesNone, number_most, refusal_field, refusal_number, no_field, taken}
+use Rattle.text_rows.specs.Taking.{FieldTold, NamesNone, Taken, bad, number_most, refusal_field, refusal_number, no_field, taken}
 use Rattle.text_rows.proofs.LineCases.{taken_cases}
 
 -- a number that is none of 13 to 15 names no field
@@ -24,7 +22,7 @@ no_field_lem number h most = record {
 abbrev Told : Taken → Type 0
 Told t = FieldTold (refusal_number t) (refusal_field t)
 
-word_told : Told (Bad 13 1)
+word_told : Told (bad 13 1)
 word_told = record {
   none = λ k. absurd (omega arith);
   word = λ k. omega arith;
@@ -34,7 +32,7 @@ word_told = record {
   field_most = omega arith;
 }
 
-number_told : (field : ℕ) → 2 ≤ field → field ≤ 4 → Told (Bad 14 field)
+number_told : (field : ℕ) → 2 ≤ field → field ≤ 4 → Told (bad 14 field)
 number_told field l m = record {
   none = λ k. absurd (omega arith);
   word = λ k. absurd (omega arith);
@@ -44,7 +42,7 @@ number_told field l m = record {
   field_most = m;
 }
 
-turn_told : Told (Bad 15 2)
+turn_told : Told (bad 15 2)
 turn_told = record {
   none = λ k. absurd (omega arith);
   word = λ k. absurd (omega arith);

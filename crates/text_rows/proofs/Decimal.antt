@@ -1,65 +1,23 @@
--- The decimal digits of a number: by its last digit, and how many they are.
-use mathlib.Core.Path.{◌≡◌, refl, sym, subst, ap, ◌∙◌}
+-- How many decimal digits a number has.
+use mathlib.Core.Path.{sym, subst}
 use mathlib.Core.Bool.{Bool, true, false, cond}
-use mathlib.Core.List.{List, [], ◌∷◌, ◌++◌}
+use mathlib.Core.List.{[], ◌∷◌, ◌++◌}
 use Prim.Native.Nat.{ℕ, zero, suc, ◌+◌, ◌/◌, ◌%◌, ◌≤◌, ◌<◌, ◌^◌}
 use native.Mathlib.Omega.{arith}
 use native.Mathlib.Nat.{pow-suc}
 use lib.Dec.{ltb}
-use borrow.Author.Tests.{ltb-true, lt-ltb, le-ltb}
+use borrow.Author.Tests.{lt-ltb}
 use lib.ListN.{length, length-append}
 use lib.IntN.{ℤ, pos, negsuc, nat_abs}
-use lib.Signed.{lt_z}
 use mir.Syntax.{w64}
 use mir.Val.{SFits}
 use mir.ValLaws.{to_z-of_z}
 use Rattle.algebra.proofs.Quotient.{kept, magnitude_fits}
-use Rattle.text_rows.specs.Numeral.{digits_of, decimal_most, decimal, signed_decimal, digit_zero, minus}
+use Rattle.text_rows.specs.Numeral.{digits_of, decimal_most, decimal, signed_decimal, digit_zero}
 
 -- a tenth of a number below a power of ten
 tenth : (k n : ℕ) → n < 10 ^ suc k → n / 10 < 10 ^ k
 tenth k n h = omega (arith, pow-suc 10 k)
-
--- more than enough digits are as good
-enough : (k n : ℕ) → n < 10 ^ suc k → digits_of (suc (suc k)) n ≡ digits_of (suc k) n
-unfolding digits_of
-enough zero n h = rw (lt-ltb n 10 h)
-enough (suc k) n h = go (ltb n 10) refl (enough k (n / 10) (tenth (suc k) n h))
-  where
-    last : List ℕ
-    last = (digit_zero + n % 10) ∷ []
-
-    go :
-        (t : Bool) → ltb n 10 ≡ t → digits_of (suc (suc k)) (n / 10) ≡ digits_of (suc k) (n / 10) → cond t
-        ((digit_zero + n) ∷ []) (digits_of (suc (suc k)) (n / 10) ++ last) ≡ cond t ((digit_zero + n) ∷ [])
-        (digits_of (suc k) (n / 10) ++ last)
-    go true e more = refl
-    go false e more = ap (λ (d : List ℕ). d ++ last) more
-
-digits_below_ten : (most n : ℕ) → n < 10 → (digit_zero + n) ∷ [] ≡ digits_of (suc most) n
-unfolding digits_of
-digits_below_ten most n h = rw (lt-ltb n 10 h)
-
-digits_by_last :
-    (k n : ℕ) → 10 ≤ n → n < 10 ^ suc (suc k) → digits_of (suc (suc k)) (n / 10) ++ ((digit_zero + n % 10) ∷ [])
-    ≡ digits_of (suc (suc k)) n
-unfolding digits_of
-digits_by_last k n h f =
-    ap (λ (d : List ℕ). d ++ ((digit_zero + n % 10) ∷ [])) (enough k (n / 10) (tenth (suc k) n f)) ∙ last_of (suc k)
-  where
-    last_of : (most : ℕ) → digits_of most (n / 10) ++ ((digit_zero + n % 10) ∷ []) ≡ digits_of (suc most) n
-    last_of most = rw (le-ltb n 10 h)
-
-pub decimal_below_ten : (n : ℕ) → n < 10 → (digit_zero + n) ∷ [] ≡ decimal n
-decimal_below_ten n h = digits_below_ten 19 n h
-
--- a number of 64 bits from ten up: the digits of its tenth, then its last digit
-pub decimal_by_last : (n : ℕ) → 10 ≤ n → n < 2 ^ 64 → decimal (n / 10) ++ ((digit_zero + n % 10) ∷ []) ≡ decimal n
-decimal_by_last n h f = digits_by_last 18 n h (omega arith)
-
--- which is one digit more
-pub longer : (n : ℕ) → 10 ≤ n → n < 2 ^ 64 → length (decimal n) ≡ length (decimal (n / 10)) + 1
-longer n h f = sym (ap length (decimal_by_last n h f)) ∙ length-append (decimal (n / 10)) ((digit_zero + n % 10) ∷ [])
 
 -- a number below a power of ten has no more digits than the power
 length_digits : (most k n : ℕ) → n < 10 ^ suc k → length (digits_of most n) ≤ suc k
@@ -78,14 +36,6 @@ pub length_decimal : (k n : ℕ) → n < 10 ^ suc k → length (decimal n) ≤ s
 length_decimal k n h = length_digits decimal_most k n h
 
 -- ---- signed numbers
-
-pub signed_below : (x : ℤ) → lt_z x (pos 0) ≡ true → minus ∷ decimal (nat_abs x) ≡ signed_decimal x
-signed_below (pos n) e = absurd (omega (arith, ltb-true n 0 e))
-signed_below (negsuc n) e = refl
-
-pub signed_above : (x : ℤ) → lt_z x (pos 0) ≡ false → decimal (nat_abs x) ≡ signed_decimal x
-signed_above (pos n) e = refl
-signed_above (negsuc n) e = let z : ◌≡◌ {A = ℕ} 0 1 = cc in absurd (omega arith)
 
 -- below a power of ten, and a sign
 pub length_signed : (k : ℕ) (x : ℤ) → nat_abs x < 10 ^ suc k → length (signed_decimal x) ≤ suc (suc k)

@@ -1,141 +1,145 @@
 -- Laws of words and of the fields of a line.
-use Prim.Native.Nat.{ℕ, zero, suc, ◌+◌, ◌-◌, ◌<◌}
-use mathlib.Core.Path.{◌≡◌, refl, ◌∙◌, ap}
+use Prim.Native.Nat.{ℕ, suc, ◌+◌}
+use mathlib.Core.Path.{◌≡◌, refl, sym, ap, subst, ◌∙◌}
 use mathlib.Core.Bool.{Bool, true, false, cond, ◌&&◌}
-use mathlib.Core.List.{List, [], ◌∷◌}
-use native.Mathlib.Numerals.{add-one}
+use mathlib.Core.List.{List, [], ◌∷◌, ◌++◌}
 use native.Mathlib.Omega.{arith}
-use borrow.Author.Tests.{eq-eqb, ne_eqb, ltb-true, ltb-false, lt-ltb, le-ltb}
-use lib.Dec.{eqb, ltb}
-use lib.ListN.{length, take, drop, get_or, drop_of_length-le}
-use lib.Seq.{drop-cons}
+use borrow.Author.Tests.{eq-eqb, ne_eqb, eqb-true}
+use denote.Param.Members.{Mut, Called}
+use denote.Ref.{Bor}
+use lib.Dec.{eqb}
+use lib.ListN.{length, get_or}
+use Rattle.std.specs.Prelude.{Option, None, Some, Err}
+use Rattle.std.specs.Bool.{MatchBool}
+use Rattle.std.specs.Fn.{ComputesKey}
+use Rattle.std.specs.List.{All, IsFirstMatchOrLen, onto_first, slice_split}
+use Rattle.std.proofs.lemmas.Fn.{always_returns_same}
+use Rattle.std.proofs.lemmas.Grind.{common_steps}
+use Rattle.std.proofs.lemmas.List.Splits.{slice_split_at, slice_split_none}
+use Rattle.std.specs.declared.slice.Split.{Split}
+use Rattle.std.specs.Slice.Iter.{split_rest, split_done, split_callee, split_steps}
+use Rattle.text_rows.specs.declared.BadLine.{BadLine}
 use Rattle.text_rows.specs.declared.Earlier.{Earlier}
-use Rattle.text_rows.specs.declared.Taken.{Taken}
-use Rattle.text_rows.specs.declared.Taken.TheVariants.{Bad}
 use Rattle.text_rows.specs.Lines.{comma, push, fields}
-use Rattle.text_rows.specs.Fields.{FirstComma}
-use Rattle.text_rows.specs.Taking.{no_field, same_bytes, row_of, taken}
+use Rattle.text_rows.specs.Taking.{no_field, same_bytes, row_of}
 
 -- ---- words
 
-and_false : (a : Bool) → false ≡ (a && false)
-and_false true = refl
-and_false false = refl
+-- the bytes of a word stand in a field from a place on
+abbrev pub Spelled : List ℕ → ℕ → List ℕ → Type 0
+Spelled f k [] = Unit {0}
+Spelled f k (b ∷ bs) = (get_or f k 0 ≡ b) × Spelled f (suc k) bs
 
--- words of different lengths differ
-pub lengths_differ : (xs ys : List ℕ) → (length xs ≡ length ys → ⊥) → false ≡ same_bytes xs ys
-unfolding same_bytes
-lengths_differ [] [] h = absurd (h refl)
-lengths_differ [] (b ∷ ys) h = refl
-lengths_differ (a ∷ xs) [] h = refl
-lengths_differ (a ∷ xs) (b ∷ ys) h = rw (← lengths_differ xs ys (λ e. h (ap suc e))) (and_false (eqb a b))
+spelled_rest : (a : ℕ) (f : List ℕ) (k : ℕ) (w : List ℕ) → Spelled (a ∷ f) (suc k) w → Spelled f k w
+spelled_rest a f k [] s = tt
+spelled_rest a f k (b ∷ bs) s = (s.0, spelled_rest a f (suc k) bs s.1)
 
--- one byte more of both
-pub bytes_drop :
-    (xs ys : List ℕ) (i : ℕ) → i < length xs → i < length ys → same_bytes (drop i xs) (drop i ys)
-    ≡ (eqb (get_or xs i 0) (get_or ys i 0) && same_bytes (drop (suc i) xs) (drop (suc i) ys))
+pub spelled : (f w : List ℕ) → length f ≡ length w → Spelled f 0 w → same_bytes f w ≡ true
 unfolding same_bytes
-bytes_drop xs ys i h l = rw (drop-cons xs i 0 h, drop-cons ys i 0 l)
+spelled [] [] e s = refl
+spelled [] (b ∷ bs) e s = absurd (omega arith)
+spelled (a ∷ f) [] e s = absurd (omega arith)
+spelled (a ∷ f) (b ∷ bs) e s = rw (eq-eqb a b s.0) (spelled f bs (omega arith) (spelled_rest a f 0 bs s.1))
+
+-- a field that is a word has its length and its bytes
+spelled_self : (w f : List ℕ) (k : ℕ) → ((j : ℕ) → get_or f (k + j) 0 ≡ get_or w j 0) → Spelled f k w
+spelled_self [] f k h = tt
+spelled_self (b ∷ bs) f k h =
+    (ap (λ (j : ℕ). get_or f j 0) (omega arith) ∙ h 0, spelled_self bs f (suc k) (λ j. ap (λ (i : ℕ). get_or f i 0) (omega arith) ∙ h (suc j)))
+
+same_list : (f w : List ℕ) → same_bytes f w ≡ true → f ≡ w
+unfolding same_bytes
+same_list [] [] e = refl
+same_list [] (b ∷ bs) e = absurd (cc)
+same_list (a ∷ f) [] e = absurd (cc)
+same_list (a ∷ f) (b ∷ bs) e = go (eqb a b) refl e (same_list f bs)
+  where
+    go : (t : Bool) → eqb a b ≡ t → (t && same_bytes f bs) ≡ true → (same_bytes f bs ≡ true → f ≡ bs) → a ∷ f ≡ b ∷ bs
+    go true p q rest = rw (eqb-true a b p, rest q)
+    go false p q rest = absurd (cc)
+
+pub other_word : (f w : List ℕ) → (length f ≡ length w → Spelled f 0 w → ⊥) → same_bytes f w ≡ false
+other_word f w h = go (same_bytes f w) refl
+  where
+    go : (t : Bool) → same_bytes f w ≡ t → t ≡ false
+    go true p =
+        let e : f ≡ w = same_list f w p in
+        absurd (h (ap length e) (spelled_self w f 0 (λ j. ap (λ (k : ℕ). get_or f k 0) (omega arith) ∙ ap (λ (x : List ℕ). get_or x j 0) e)))
+    go false p = refl
 
 -- ---- fields
 
--- the fields after the one that ends at r
-abbrev pub after : List ℕ → ℕ → List (List ℕ)
-after line r = cond (ltb r (length line)) (fields (drop (suc r) line)) []
+-- where a line is cut
+abbrev pub is_comma : ℕ → Bool
+is_comma b = eqb b comma
 
--- a line has a field
-pub some_field : (line : List ℕ) → 0 < length (fields line)
+fields_are : (line : List ℕ) → fields line ≡ slice_split is_comma line
 unfolding fields
-some_field [] = omega arith
-some_field (b ∷ bs) = go (eqb b comma) (fields bs)
+fields_are [] = refl
+fields_are (b ∷ bs) = rw (fields_are bs) (ap (cond (eqb b comma) ([] ∷ slice_split is_comma bs)) (go (slice_split is_comma bs)))
   where
-    go : (t : Bool) (fs : List (List ℕ)) → 0 < length (cond t ([] ∷ fs) (push b fs))
-    go true fs = omega arith
-    go false [] = omega arith
-    go false (f ∷ fs) = omega arith
+    go : (ss : List (List ℕ)) → push b ss ≡ onto_first b ss
+    go [] = refl
+    go (s ∷ ss) = refl
 
--- the field of n bytes from one place to the next comma, and the fields after it
-cut :
-    (line : List ℕ) (n from r : ℕ) → from + n ≡ r → FirstComma line from r → fields (drop from line) ≡ take n
-    (drop from line) ∷ after line r
-unfolding fields
-cut line zero from r e first = rw (ap (λ (k : ℕ). drop k line) here) (go (ltb r (length line)) refl)
-  where
-    here : from ≡ r
-    here = omega arith
+-- the first field of what is left, and what is left behind it
+first_field :
+    (xs x rest : List ℕ) (done : Bool) → MatchBool done (xs ≡ x) ((y : ℕ) × (xs ≡ x ++ (y ∷ rest))) → IsFirstMatchOrLen is_comma xs (length x)
+    → fields xs ≡ x ∷ cond done [] (fields rest)
+first_field xs x rest true e h =
+    ap fields e ∙ fields_are x ∙ slice_split_none is_comma x (λ k d l. subst (λ (ys : List ℕ). is_comma (get_or ys k d) ≡ false) e (h.0 k d (omega arith) l))
+first_field xs x rest false e h =
+    let front : All (λ z. is_comma z ≡ false) x = λ k d l. let a = h.0 k d (omega arith) l in let b = e.1 in grind (arith, common_steps) in
+    let hit : is_comma e.0 ≡ true = let b = e.1 in let a = h.1 (grind (arith, common_steps)) e.0 in grind (arith, common_steps) in
+    ap fields e.1 ∙ fields_are (x ++ (e.0 ∷ rest)) ∙ slice_split_at is_comma x e.0 rest front hit ∙ ap (λ (l : List (List ℕ)). x ∷ l) (sym (fields_are rest))
 
-    go : (t : Bool) → ltb r (length line) ≡ t → fields (drop r line) ≡ [] ∷ cond t (fields (drop (suc r) line)) []
-    go true t =
-        let h : r < length line = ltb-true r (length line) t in
-        rw (drop-cons line r 0 h, eq-eqb (get_or line r 0) comma (first.found h))
-    go false t = rw (drop_of_length-le line {i = r} (ltb-false r (length line) t))
-cut line (suc n) from r e first =
-    let l : from < length line = omega (arith, first.within) in
-    rw (
-      drop-cons line from 0 l,
-      ne_eqb (get_or line from 0) comma (first.none_before from (omega arith)
-          (omega arith)),
-    )
-    (rw (cut line n (suc from) r (omega arith) onward))
-  where
-    onward : FirstComma line (suc from) r
-    onward = record {
-      from_on = omega arith;
-      within = first.within;
-      none_before = λ k h m. first.none_before k h (omega arith);
-      found = first.found;
-    }
+-- the fields that are left where a line is being cut
+pub record Left {F : Type 0} (g : Mut F (Bor ℕ × Unit {0}) Bool) (s : Split ℕ F) (fs : List (List ℕ)) : Type 0 where
+  pub cuts : ComputesKey g is_comma (split_callee s)
+  pub shown : fs ≡ cond (split_done s) [] (fields (split_rest s))
 
--- the bytes of a line from one place to another
-abbrev pub part : List ℕ → (from to : ℕ) → List ℕ
-part line from to = take (to - from) (drop from line)
+module _ {F : Type 0} {g : Mut F (Bor ℕ × Unit {0}) Bool} where
+  -- all of them, before the first step
+  pub left_start :
+      (s t : Split ℕ F) (r : Option (Bor (List ℕ))) (line : List ℕ) → split_steps g s r t → split_rest s ≡ line → split_done s ≡ false
+      → ((a : Bor ℕ × Unit {0}) (r : Bool) (q : F) → Called g (split_callee s) a r q → (r ≡ is_comma a.0.now) × (q ≡ split_callee s)) → Left g s (fields line)
+  left_start s t r line k rest done tests = record {
+    cuts = always_returns_same g (λ a r. r ≡ is_comma a.0.now) (split_callee s) tests;
+    shown = rw (rest, done);
+  }
 
-module _ (line : List ℕ) {from r : ℕ} (first : FirstComma line from r) where
-  here : fields (drop from line) ≡ part line from r ∷ after line r
-  here = cut line (r - from) from r (omega (arith, first.from_on)) first
+  module _ {s : Split ℕ F} {fs : List (List ℕ)} (t : Split ℕ F) {r : Option (Bor (List ℕ))} (l : Left g s fs) (k : split_steps g s r t) where
+    pub left_none : r ≡ None → fs ≡ []
+    left_none e = let m = subst (λ (o : Option (Bor (List ℕ))). split_steps g s o t) e k in l.shown ∙ rw m.0
 
-  -- the last field of a line
-  pub last_field : r ≡ length line → fields (drop from line) ≡ part line from r ∷ []
-  last_field e = here ∙ rw (le-ltb r (length line) (omega arith))
+    pub left_some : (x : Bor (List ℕ)) → r ≡ Some x → (rest : List (List ℕ)) × (fs ≡ x.now ∷ rest) × Left g t rest
+    left_some x e =
+        let m = subst (λ (o : Option (Bor (List ℕ))). split_steps g s o t) e k in
+        let n = m.2 is_comma l.cuts in
+        let rest = cond (split_done t) [] (fields (split_rest t)) in (
+          rest,
+          l.shown ∙ rw m.0 (first_field (split_rest s) x.now (split_rest t) (split_done t) m.1 n.1),
+          record { cuts = n.0; shown = refl },
+        )
 
-  -- a field before a comma
-  pub field_before : (r ≡ length line → ⊥) → fields (drop from line) ≡ part line from r ∷ fields (drop (r + 1) line)
-  field_before h = here ∙ rw (lt-ltb r (length line) (omega (arith, first.within)), add-one r)
+    -- where more fields are left there is a next one, and where none is left there is none
+    pub left_more : {n : ℕ} → length fs ≡ suc n → (r ≡ None → ⊥) × (rest : List (List ℕ)) × (length rest ≡ n) × Left g t rest
+    left_more {n} h = go r refl
+      where
+        go : (o : Option (Bor (List ℕ))) → r ≡ o → (r ≡ None → ⊥) × (rest : List (List ℕ)) × (length rest ≡ n) × Left g t rest
+        go None e = absurd (omega (arith, ap length (left_none e)))
+        go (Some x) e =
+            let m = left_some x e in
+            ((λ f. absurd (cc)), m.0, omega (arith, ap length m.1), m.2)
 
--- ---- lines of one to four fields, and of more
+    pub left_done : length fs ≡ 0 → r ≡ None
+    left_done h = go r refl
+      where
+        go : (o : Option (Bor (List ℕ))) → r ≡ o → r ≡ None
+        go None e = e
+        go (Some x) e = absurd (omega (arith, ap length (left_some x e).1))
 
-module _ (earlier : Earlier) (line : List ℕ) {a : ℕ} (fa : FirstComma line 0 a) where
-  pub one_field : a ≡ length line → Bad 10 no_field ≡ taken earlier line
-  unfolding row_of
-  one_field e = rw (last_field line fa e)
-
-  module _ (ha : a ≡ length line → ⊥) {b : ℕ} (fb : FirstComma line (a + 1) b) where
-    pub two_fields : b ≡ length line → Bad 10 no_field ≡ taken earlier line
-    unfolding row_of
-    two_fields e = rw (field_before line fa ha, last_field line fb e)
-
-    module _ (hb : b ≡ length line → ⊥) {c : ℕ} (fc : FirstComma line (b + 1) c) where
-      pub three_fields : c ≡ length line → Bad 10 no_field ≡ taken earlier line
-      unfolding row_of
-      three_fields e = rw (field_before line fa ha, field_before line fb hb, last_field line fc e)
-
-      module _ (hc : c ≡ length line → ⊥) {d : ℕ} (fd : FirstComma line (c + 1) d) where
-        pub more_fields : (d ≡ length line → ⊥) → Bad 10 no_field ≡ taken earlier line
-        unfolding row_of
-        more_fields hd =
-            rw (
-              field_before line fa ha,
-              field_before line fb hb,
-              field_before line fc hc,
-              field_before line fd hd,
-              ne_eqb (suc
-                  (suc (suc (suc (length (fields (drop (d + 1) line))))))) 4
-                  (λ e. absurd (omega (arith, some_field (drop (d + 1) line)))),
-            )
-
-        pub four_fields :
-            d ≡ length line → {t : Taken} → t ≡ row_of earlier
-            (part line 0 a ∷ part line (a + 1) b ∷ part line (b + 1) c ∷ part line (c + 1) d ∷ []) → t ≡ taken earlier
-            line
-        four_fields e h =
-            rw (field_before line fa ha, field_before line fb hb, field_before line fc hc, last_field line fd e) h
+-- a line whose fields are not four
+pub uncounted : (earlier : Earlier) (fs : List (List ℕ)) (b : BadLine) → b.number ≡ 10 → b.field ≡ no_field → (length fs ≡ 4 → ⊥) → Err b ≡ row_of earlier fs
+unfolding row_of
+uncounted earlier fs b e f h = rw (ne_eqb (length fs) 4 h) (ap Err (λ i. record { number = e i; field = f i }))

@@ -2,10 +2,9 @@
 use Prim.Native.Nat.{ℕ, zero, suc, ◌+◌, ◌-◌, ◌≤◌, ◌<◌}
 use native.Mathlib.Omega.{arith}
 use mathlib.Core.Logic.{inl, inr}
-use mathlib.Core.Path.{◌≡◌, refl, sym, ap, ◌∙◌}
+use mathlib.Core.Path.{◌≡◌, refl, sym, ap, subst, ◌∙◌}
 use mathlib.Core.Bool.{Bool, true, false, cond, ◌&&◌}
 use mathlib.Core.List.{List, [], ◌∷◌}
-use borrow.Author.Count.{below_more}
 use borrow.Author.Tests.{eq-eqb, ne_eqb}
 use lib.Dec.{eqb}
 use lib.ListN.{length, get_or, take, drop, length-drop, drop_of_length-le}
@@ -77,82 +76,58 @@ line_whole : (s : List ℕ) → 0 < length s → Unfed s (length s) → lines s 
 line_whole [] h u = absurd (omega arith)
 line_whole (b ∷ bs) h u = line_last b bs u
 
--- no LF from a position up to another
-abbrev pub Passed : List ℕ → (at i : ℕ) → Type 0
-Passed text at i = (k : ℕ) → at ≤ k → k < i → get_or text k 0 ≡ line_feed → ⊥
+-- what is left of a text at a position
+abbrev pub rest_at : List ℕ → ℕ → List ℕ
+rest_at text at = take (length text - at) (drop at text)
 
-unfed : (text : List ℕ) (at i : ℕ) → Passed text at i → Unfed (drop at text) (i - at)
-unfed text at i p k h e = p (at + k) (omega arith) (omega arith) (sym (get_or-drop at text k 0) ∙ e)
+pub rest_is : (text : List ℕ) (at : ℕ) → rest_at text at ≡ drop at text
+rest_is text at = take_all (length text - at) (drop at text) (omega (arith, length-drop at text))
 
-pub passed_more :
-    (text : List ℕ) (at i : ℕ) → Passed text at i → (get_or text i 0 ≡ line_feed → ⊥) → Passed text at (i + 1)
-passed_more text at i p h k g l =
-    below_more (λ j. at ≤ j → get_or text j 0 ≡ line_feed → ⊥) i (λ j b a. p j a b) (λ a. h) k l g
-
--- the line at a position whose LF is at i
+-- the line at a position whose LF stands after n bytes
 pub fed_line :
-    (text : List ℕ) (from : Cursor) (i : ℕ) → from.at ≤ i → i < length text → get_or text i 0 ≡ line_feed → Passed text
-    from.at i → LineAt text from
+    (text : List ℕ) (from : Cursor) (n : ℕ) → n < length (rest_at text from.at) → get_or (rest_at text from.at) n 0 ≡ line_feed
+    → Unfed (rest_at text from.at) n
+    → LineAt text from
     (record {
-      end = from.at + line_end (drop from.at text) (i - from.at);
-      next = record { at = i + 1; line = from.line + 1 };
+      end = from.at + line_end (drop from.at text) (from.at + n - from.at);
+      next = record { at = from.at + n + 1; line = from.line + 1 };
     })
-fed_line text from i h g e p =
+fed_line text from n h e u =
     let s = drop from.at text in
-    let n = i - from.at in
-    let back : from.at + n ≡ i = omega arith in
-    let past : from.at + suc n ≡ i + 1 = omega arith in
-    let shown : get_or s n 0 ≡ line_feed = get_or-drop from.at text n 0 ∙ (ap (λ (k : ℕ). get_or text k 0) back ∙ e) in
-    let after : drop (suc n) s ≡ drop (i + 1) text = drop-drop (suc n) from.at text ∙ ap (λ (k : ℕ). drop k text)
-    past in
+    let same : rest_at text from.at ≡ s = rest_is text from.at in
+    let within : n < length s = subst (λ (x : List ℕ). n < length x) same h in
+    let shown : get_or s n 0 ≡ line_feed = subst (λ (x : List ℕ). get_or x n 0 ≡ line_feed) same e in
+    let unfed : Unfed s n = subst (λ (x : List ℕ). Unfed x n) same u in
+    let back : from.at + n - from.at ≡ n = omega arith in
     let most : line_end s n ≤ n = end_most s n in
     let size : from.at + line_end s n - from.at ≡ line_end s n = omega arith in
-    record {
+    let after : drop (suc n) s ≡ drop (from.at + n + 1) text = drop-drop (suc n) from.at text ∙ ap (λ (k : ℕ). drop k text) (omega arith) in
+    rw back (record {
       start = omega arith;
-      stop = omega arith;
+      stop = omega (arith, length-drop from.at text);
       on = omega arith;
-      rest = omega arith;
+      rest = omega (arith, length-drop from.at text);
       number = refl;
-      parted = rw (size, ← after) (line_fed s n (rw length-drop (omega arith)) shown (unfed text from.at i p));
-      fed = inr (i, (refl, e));
-    }
+      parted = rw (size, ← after) (line_fed s n within shown unfed);
+      fed = inr (from.at + n, (refl, sym (get_or-drop from.at text n 0) ∙ shown));
+    })
 
 -- the line at a position after which there is no LF
 pub last_line :
-    (text : List ℕ) (from : Cursor) (i : ℕ) → from.at < length text → i ≤ length text → length text ≤ i → Passed text
-    from.at i → LineAt text from (record { end = i; next = record { at = i; line = from.line + 1 } })
+    (text : List ℕ) (from : Cursor) → from.at < length text → Unfed (rest_at text from.at) (length (rest_at text from.at))
+    → LineAt text from (record { end = length text; next = record { at = length text; line = from.line + 1 } })
 unfolding lines
-last_line text from i h g l p =
+last_line text from h u =
     let s = drop from.at text in
-    let size : length s ≡ i - from.at = length-drop from.at text ∙ omega arith in
-    let all : take (i - from.at) s ≡ s = take_all (i - from.at) s (omega arith) in
-    let none : drop i text ≡ [] = drop_of_length-le text l in
+    let same : rest_at text from.at ≡ s = rest_is text from.at in
+    let unfed : Unfed s (length s) = subst (λ (x : List ℕ). Unfed x (length x)) same u in
+    let none : drop (length text) text ≡ [] = drop_of_length-le text (omega arith) in
     record {
       start = omega arith;
       stop = omega arith;
       on = omega arith;
       rest = omega arith;
       number = refl;
-      parted = rw (all, none) (line_whole s (omega arith) (rw size (unfed text from.at i p)));
-      fed = inl (omega arith);
+      parted = rw (same, none) (line_whole s (omega (arith, length-drop from.at text)) unfed);
+      fed = inl refl;
     }
-
--- the ends of `line_end` by a test of the byte before the LF
-pub end_none : (text : List ℕ) (at feed : ℕ) → feed ≡ at → at ≡ at + line_end (drop at text) (feed - at)
-end_none text at feed h = let e : feed - at ≡ 0 = omega arith in rw e (omega arith)
-
-module _ (text : List ℕ) (at feed : ℕ) (h : at < feed) where
-  before : feed - at ≡ suc (feed - at - 1)
-  before = omega arith
-
-  byte : get_or (drop at text) (feed - at - 1) 0 ≡ get_or text (feed - 1) 0
-  byte = get_or-drop at text (feed - at - 1) 0 ∙ ap (λ (k : ℕ). get_or text k 0) (omega arith)
-
-  pub end_return : get_or text (feed - 1) 0 ≡ carriage_return → feed - 1 ≡ at + line_end (drop at text) (feed - at)
-  end_return e =
-      rw before (rw (eq-eqb (get_or (drop at text) (feed - at - 1) 0) carriage_return (byte ∙ e)) (omega arith))
-
-  pub end_other : (get_or text (feed - 1) 0 ≡ carriage_return → ⊥) → feed ≡ at + line_end (drop at text) (feed - at)
-  end_other e =
-      rw before (rw (ne_eqb (get_or (drop at text) (feed - at - 1) 0) carriage_return
-      (λ (g : get_or (drop at text) (feed - at - 1) 0 ≡ carriage_return). e (sym byte ∙ g))) (omega arith))

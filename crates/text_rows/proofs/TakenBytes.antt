@@ -5,7 +5,7 @@ use mathlib.Core.Path.{◌≡◌, refl, sym, subst}
 use mathlib.Core.Logic.{◌≢◌}
 use mathlib.Core.Bool.{Bool, true, false, cond, ◌&&◌, true≢false}
 use mathlib.Core.List.{List, [], ◌∷◌}
-use mathlib.Core.Option.{Option, none, some}
+use Rattle.std.specs.Prelude.{Option, None, Some, Ok, Err, option_map}
 use native.Mathlib.Omega.{arith}
 use borrow.Author.Tests.{eqb-true, leb-true}
 use lib.Dec.{eqb, leb}
@@ -14,17 +14,15 @@ use lib.IntN.{ℤ, pos, neg_ℤ}
 use Rattle.ground.specs.Entries.{Each}
 use Rattle.text_rows.specs.declared.Earlier.{Earlier}
 use Rattle.text_rows.specs.declared.Row.{Row}
-use Rattle.text_rows.specs.declared.Taken.{Taken}
-use Rattle.text_rows.specs.declared.Taken.TheVariants.{Good, Bad}
 use Rattle.text_rows.specs.Lines.{carriage_return, comma, fields, push}
-use Rattle.text_rows.specs.Numeral.{all_digits, digit_nine, digit_zero, digits_most, minus, number, option_map, signed, value_of, weight_of}
-use Rattle.text_rows.specs.Taking.{field_at, gap_word, kind_word, label_word, same_bytes, same_word, taken}
+use Rattle.text_rows.specs.Numeral.{all_digits, digit_nine, digit_zero, digits_most, minus, number, signed, value_of, weight_of}
+use Rattle.text_rows.specs.Taking.{Taken, field_at, gap_word, kind_word, label_word, same_bytes, same_word, taken}
 use Rattle.text_rows.proofs.LineCases.{by_kind, taken_cases}
 
 -- what holds if a line is taken
 abbrev IfTaken : Type 0 → Taken → Type 0
-IfTaken A (Good row) = A
-IfTaken A (Bad number field) = Unit {0}
+IfTaken A (Ok row) = A
+IfTaken A (Err b) = Unit {0}
 
 both : (a b : Bool) → (a && b) ≡ true → (a ≡ true) × (b ≡ true)
 both true b e = (refl, e)
@@ -53,33 +51,33 @@ module _
         let d = both (leb digit_zero b) (leb b digit_nine) t.0 in
         (digit b (leb-true digit_zero b d.0) (leb-true b digit_nine d.1), digit_bytes bs t.1)
 
-    number_bytes : (f : List ℕ) (n : ℕ) → number f ≡ some n → Each P f
+    number_bytes : (f : List ℕ) (n : ℕ) → number f ≡ Some n → Each P f
     unfolding number
     number_bytes f n = go (leb 1 (length f) && leb (length f) digits_most && all_digits f) refl
       where
         go :
             (t : Bool) → (leb 1 (length f) && leb (length f) digits_most && all_digits f) ≡ t
-            → cond t (some (value_of 0 f)) none ≡ some n → Each P f
+            → cond t (Some (value_of 0 f)) None ≡ Some n → Each P f
         go true e k = digit_bytes f (both (leb 1 (length f) && leb (length f) digits_most) (all_digits f) e).1
-        go false e k = let z : ◌≡◌ {A = ℕ} 0 1 = cc in absurd (omega arith)
+        go false e k = absurd (cc)
 
     -- a number with its sign put to it
-    mapped_bytes : (f : List ℕ) (h : ℕ → ℤ) (z : ℤ) (o : Option ℕ) → number f ≡ o → option_map h o ≡ some z → Each P f
-    mapped_bytes f h z none e k = let z : ◌≡◌ {A = ℕ} 0 1 = cc in absurd (omega arith)
-    mapped_bytes f h z (some n) e k = number_bytes f n e
+    mapped_bytes : (f : List ℕ) (h : ℕ → ℤ) (z : ℤ) (o : Option ℕ) → number f ≡ o → option_map h o ≡ Some z → Each P f
+    mapped_bytes f h z None e k = absurd (cc)
+    mapped_bytes f h z (Some n) e k = number_bytes f n e
 
-    signed_bytes : (f : List ℕ) (z : ℤ) → signed f ≡ some z → Each P f
+    signed_bytes : (f : List ℕ) (z : ℤ) → signed f ≡ Some z → Each P f
     unfolding signed
     signed_bytes [] z k = tt
     signed_bytes (b ∷ bs) z k = go (eqb b minus) refl k
       where
         go :
-            (t : Bool) → eqb b minus ≡ t → cond t (option_map (λ n. neg_ℤ (pos n)) (number bs)) (option_map pos (number (b ∷ bs))) ≡ some z
+            (t : Bool) → eqb b minus ≡ t → cond t (option_map (λ n. neg_ℤ (pos n)) (number bs)) (option_map pos (number (b ∷ bs))) ≡ Some z
             → Each P (b ∷ bs)
         go true e k = (subst P (sym (eqb-true b minus e)) sign, mapped_bytes bs _ z (number bs) refl k)
         go false e k = mapped_bytes (b ∷ bs) pos z (number (b ∷ bs)) refl k
 
-    weight_bytes : (f : List ℕ) (z : ℤ) → weight_of f ≡ some z → Each P f
+    weight_bytes : (f : List ℕ) (z : ℤ) → weight_of f ≡ Some z → Each P f
     unfolding weight_of
     weight_bytes [] z k = tt
     weight_bytes (b ∷ bs) z k = mapped_bytes (b ∷ bs) pos z (number (b ∷ bs)) refl k
@@ -121,17 +119,17 @@ module _
         (λ kind u v z k. line_bytes line (four_bytes (fields line) k.four (word_bytes _ (kind_word kind) k.word (by_kind (Each P) words.1 words.2 kind))
         (number_bytes _ u k.second) (number_bytes _ v k.third) (signed_bytes _ z k.fourth)))
 
-    pub taken_bytes : (earlier : Earlier) (line : List ℕ) (row : Row) → taken earlier line ≡ Good row → Each P line
+    pub taken_bytes : (earlier : Earlier) (line : List ℕ) (row : Row) → taken earlier line ≡ Ok row → Each P line
     taken_bytes earlier line row e = subst (IfTaken (Each P line)) e (if_taken earlier line)
 
 -- ---- so no line with one of these is taken, wherever it stands
 
-pub no_return : (earlier : Earlier) (line : List ℕ) (row : Row) → taken earlier line ≡ Good row → Each (λ b. b ≢ carriage_return) line
+pub no_return : (earlier : Earlier) (line : List ℕ) (row : Row) → taken earlier line ≡ Ok row → Each (λ b. b ≢ carriage_return) line
 no_return = taken_bytes (λ b. b ≢ carriage_return) (omega arith) (λ b l m e. omega arith) (λ e. omega arith) (λ e. omega arith)
 
 -- the byte of a quote
 abbrev pub quote : ℕ
 quote = 34
 
-pub no_quote : (earlier : Earlier) (line : List ℕ) (row : Row) → taken earlier line ≡ Good row → Each (λ b. b ≢ quote) line
+pub no_quote : (earlier : Earlier) (line : List ℕ) (row : Row) → taken earlier line ≡ Ok row → Each (λ b. b ≢ quote) line
 no_quote = taken_bytes (λ b. b ≢ quote) (omega arith) (λ b l m e. omega arith) (λ e. omega arith) (λ e. omega arith)

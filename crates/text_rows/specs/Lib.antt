@@ -1,6 +1,5 @@
 pub mod Bytes
 pub mod Lines
 pub mod Numeral
-pub mod Fields
 pub mod Taking
 pub mod LineAt

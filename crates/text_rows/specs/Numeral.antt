@@ -1,6 +1,5 @@
 -- Numbers as digits (document 01, "Sheet text"): how they are read, and how they are written.
-use Rattle.std.specs.Prelude.{ℕ, zero, suc, ◌+◌, ◌-◌, ◌*◌, ◌/◌, ◌%◌, Bool, true, cond, ◌&&◌, List, [], ◌∷◌, ◌++◌, eqb, ltb, leb, length, ℤ, pos, negsuc, neg_ℤ}
-use Rattle.std.proofs.Math.Option.{Option, none, some}
+use Rattle.std.specs.Prelude.{ℕ, zero, suc, ◌+◌, ◌-◌, ◌*◌, ◌/◌, ◌%◌, Bool, true, cond, ◌&&◌, List, [], ◌∷◌, ◌++◌, eqb, ltb, leb, length, ℤ, pos, negsuc, neg_ℤ, Option, Some, None, option_map}
 
 -- the bytes '0', '9' and '-'
 abbrev pub digit_zero : ℕ
@@ -30,23 +29,18 @@ abbrev pub digits_most : ℕ
 digits_most = 9
 
 unfoldable pub number : List ℕ → Option ℕ
-number f = cond (leb 1 (length f) && leb (length f) digits_most && all_digits f) (some (value_of 0 f)) none
-
--- a function of what is told, if anything is
-abbrev pub option_map : {A B : Type 0} → (A → B) → Option A → Option B
-option_map h none = none
-option_map h (some a) = some (h a)
+number f = cond (leb 1 (length f) && leb (length f) digits_most && all_digits f) (Some (value_of 0 f)) None
 
 -- "a minus sign in front only in a wanted place or distance"
 unfoldable pub signed : List ℕ → Option ℤ
-signed [] = none
+signed [] = None
 signed (b ∷ bs) =
     cond (eqb b minus) (option_map (λ n. neg_ℤ (pos n)) (number bs))
     (option_map pos (number (b ∷ bs)))
 
 -- "From this release a blank weight is 10, in the text only" (document 02, Item 3)
 unfoldable pub weight_of : List ℕ → Option ℤ
-weight_of [] = some (pos 10)
+weight_of [] = Some (pos 10)
 weight_of (b ∷ bs) = option_map pos (number (b ∷ bs))
 
 -- the decimal digits of a number, at most so many

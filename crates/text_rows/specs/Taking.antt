@@ -1,11 +1,10 @@
 -- A line taken apart as a label or a gap of either kind (document 01, "Sheet text"; document 02, Items 5 and 6).
-use Rattle.std.specs.Prelude.{ℕ, zero, suc, ◌≤◌, ◌≡◌, ◌≢◌, Bool, true, false, cond, ◌&&◌, List, [], ◌∷◌, eqb, length, get_or}
-use Rattle.std.proofs.Math.Option.{Option, none, some}
+use Rattle.std.specs.Prelude.{ℕ, zero, suc, ◌≤◌, ◌≡◌, ◌≢◌, Bool, true, false, cond, ◌&&◌, List, [], ◌∷◌, eqb, length, get_or, Option, Some, None, Result, Ok, Err}
 use Rattle.ground.specs.Kinds.{at_least_byte, exactly_byte}
 use Rattle.text_rows.specs.declared.Earlier.{Earlier}
+use Rattle.text_rows.specs.declared.BadLine.{BadLine}
+use Rattle.text_rows.specs.declared.Row.{Row}
 use Rattle.text_rows.specs.declared.Row.TheVariants.{Label, Gap}
-use Rattle.text_rows.specs.declared.Taken.{Taken}
-use Rattle.text_rows.specs.declared.Taken.TheVariants.{Good, Bad}
 use Rattle.text_rows.specs.Bytes.{bytes}
 use Rattle.text_rows.specs.Lines.{fields}
 use Rattle.text_rows.specs.Numeral.{number, signed, weight_of}
@@ -35,32 +34,39 @@ kind_word kind = cond (eqb kind exactly_byte) same_word gap_word
 abbrev pub no_field : ℕ
 no_field = 0
 
+-- what is told of a line: its record, or that it is bad, by the number of its refusal and its bad field
+abbrev pub Taken : Type 0
+Taken = Result Row BadLine
+
+abbrev pub bad : (number field : ℕ) → Taken
+bad number field = Err (record { number = number; field = field })
+
 -- the number of a line's refusal, and its bad field: 0 for a line that is taken
 abbrev pub refusal_number : Taken → ℕ
-refusal_number (Good row) = 0
-refusal_number (Bad number field) = number
+refusal_number (Ok row) = 0
+refusal_number (Err b) = b.number
 
 abbrev pub refusal_field : Taken → ℕ
-refusal_field (Good row) = no_field
-refusal_field (Bad number field) = field
+refusal_field (Ok row) = no_field
+refusal_field (Err b) = b.field
 
 -- "a number that breaks its rule is 14": what a field tells, or the line is refused at this field
 abbrev pub given : {A : Type 0} → (field : ℕ) → Option A → (A → Taken) → Taken
-given field none next = Bad 14 field
-given field (some a) next = next a
+given field None next = bad 14 field
+given field (Some a) next = next a
 
 -- "label, its number, wanted place, weight": "14 at its first bad field, then 15". "Label numbers run 0, 1, 2 in the order
 -- of their records", so the number is the count of labels before; "a label number out of turn is 15"
 abbrev pub label_row : Earlier → (number' wanted weight : List ℕ) → Taken
 label_row earlier k d w =
     given 2 (number k) (λ n. given 3 (signed d) (λ z. given 4 (weight_of w) (λ m.
-    cond (eqb n earlier.labels) (Good (Label (record { wanted = z; weight = m }))) (Bad 15 2))))
+    cond (eqb n earlier.labels) (Ok (Label (record { wanted = z; weight = m }))) (bad 15 2))))
 
 -- "gap, left, right, distance", and so after the word same; "The gap record shall carry its kind"
 abbrev pub gap_row : (kind : ℕ) → (left right distance : List ℕ) → Taken
 gap_row kind u v g =
     given 2 (number u) (λ l. given 3 (number v) (λ r. given 4 (signed g) (λ z.
-    Good (Gap (record { left = l; right = r; distance = z; kind = kind })))))
+    Ok (Gap (record { left = l; right = r; distance = z; kind = kind })))))
 
 -- a field of a line, counted from 1
 abbrev pub field_at : List (List ℕ) → ℕ → List ℕ
@@ -74,8 +80,8 @@ row_of earlier fs =
     cond (eqb (length fs) 4)
     (cond (same_bytes (field_at fs 1) label_word) (label_row earlier (field_at fs 2) (field_at fs 3) (field_at fs 4))
     (cond (same_bytes (field_at fs 1) gap_word) (gap_row at_least_byte (field_at fs 2) (field_at fs 3) (field_at fs 4))
-    (cond (same_bytes (field_at fs 1) same_word) (gap_row exactly_byte (field_at fs 2) (field_at fs 3) (field_at fs 4)) (Bad 13 1))))
-    (Bad 10 no_field)
+    (cond (same_bytes (field_at fs 1) same_word) (gap_row exactly_byte (field_at fs 2) (field_at fs 3) (field_at fs 4)) (bad 13 1))))
+    (bad 10 no_field)
 
 -- a line after those before it
 abbrev pub taken : Earlier → List ℕ → Taken

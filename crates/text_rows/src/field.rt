@@ -1,107 +1,53 @@
-// The fields of a record: a number, a number with a sign, a weight, a word.
-ghost use Rattle.std.specs.Prelude.{◌≡◌, pos, neg_ℤ};
+// The fields of a record: a number, a number with a sign, a weight.
+ghost use Rattle.std.specs.Prelude.{◌≡◌, pos, option_map};
 ghost use Rattle.text_rows.specs.Numeral as numeral;
-ghost use Rattle.text_rows.specs.Fields.{natural, integer};
-ghost use Rattle.text_rows.specs.Taking.{same_bytes};
 
 // Digits of a number, at most.
 const DIGITS_MOST: usize = 9;
 
-// What a field tells that takes no sign.
-#[derive(Clone, Copy)]
-pub(crate) enum Natural {
-    Value(usize),
-    Not,
-}
-
-// What a field tells that may take a sign.
-#[derive(Clone, Copy)]
-pub(crate) enum Integer {
-    Value(i64),
-    Not,
-}
-
 // A number: digits alone, at least one.
-pub(crate) fn number(field: &[u8]) -> Natural
-    ensures { result ≡ natural (numeral.number field.now) }
+pub(crate) fn number(field: &[u8]) -> Option<usize>
+    ensures { result ≡ numeral.number field.now }
 {
-    if field.len() < 1 {
-        return Natural::Not;
+    if field.is_empty() || DIGITS_MOST < field.len() {
+        return None;
     }
-    if DIGITS_MOST < field.len() {
-        return Natural::Not;
-    }
-    let mut value: usize = 0;
-    let mut i: usize = 0;
-    while i < field.len() {
-        let digit = field[i];
-        if digit < b'0' {
-            return Natural::Not;
+    let mut value = 0;
+    for &digit in field {
+        if !digit.is_ascii_digit() {
+            return None;
         }
-        if b'9' < digit {
-            return Natural::Not;
-        }
-        value = 10 * value + (digit - b'0') as usize;
-        i += 1;
+        value = 10 * value + usize::from(digit - b'0');
     }
-    Natural::Value(value)
+    Some(value)
 }
 
-// Digits without a sign.
-fn unsigned(field: &[u8]) -> Integer
-    ensures { result ≡ integer (numeral.option_map pos (numeral.number field.now)) }
+// Digits without a sign; so few that they fit.
+#[tactic(auto, using(crate::proofs::DigitLaws::number_small))]
+fn unsigned(field: &[u8]) -> Option<i64>
+    ensures { result ≡ option_map pos (numeral.number field.now) }
 {
-    let Natural::Value(value) = number(field) else {
-        return Integer::Not;
-    };
-    Integer::Value(value as i64)
-}
-
-// Digits that stand after a minus sign.
-fn negated(field: &[u8]) -> Integer
-    ensures { result ≡ integer (numeral.option_map (λ n. neg_ℤ (pos n)) (numeral.number field.now)) }
-{
-    let Natural::Value(value) = number(field) else {
-        return Integer::Not;
-    };
-    Integer::Value(-(value as i64))
+    let value = number(field)?;
+    Some(value as i64)
 }
 
 // A wanted place or a distance: digits, with or without a minus sign in front.
-pub(crate) fn signed(field: &[u8]) -> Integer
-    ensures { result ≡ integer (numeral.signed field.now) }
+pub(crate) fn signed(field: &[u8]) -> Option<i64>
+    ensures { result ≡ numeral.signed field.now }
 {
-    if 0 < field.len() {
-        if field[0] == b'-' {
-            return negated(&field[1..]);
-        }
+    if let [b'-', digits @ ..] = field {
+        let value = unsigned(digits)?;
+        return Some(-value);
     }
     unsigned(field)
 }
 
 // A weight: digits, or 10 where it is blank.
-pub(crate) fn weight(field: &[u8]) -> Integer
-    ensures { result ≡ integer (numeral.weight_of field.now) }
+pub(crate) fn weight(field: &[u8]) -> Option<i64>
+    ensures { result ≡ numeral.weight_of field.now }
 {
-    if field.len() == 0 {
-        return Integer::Value(10);
+    if field.is_empty() {
+        return Some(10);
     }
     unsigned(field)
-}
-
-// Whether a field is this word, byte for byte.
-pub(crate) fn is_word(field: &[u8], word: &[u8]) -> bool
-    ensures { result ≡ same_bytes field.now word.now }
-{
-    if field.len() != word.len() {
-        return false;
-    }
-    let mut i: usize = 0;
-    while i < word.len() {
-        if field[i] != word[i] {
-            return false;
-        }
-        i += 1;
-    }
-    true
 }

@@ -1,62 +1,56 @@
 #![tactic(auto)]
 // The lines of a text, their fields, and the records that they tell.
 ghost use Rattle.std.specs.Prelude.{◌≡◌};
-ghost use Rattle.text_rows.specs.Taking.{refusal_field, refusal_number};
+ghost use Rattle.ground.specs.Rules.{number_of_rule};
 
 use ground::GapRecord;
+use ground::rules::Rule;
 
 mod field;
 pub mod lines;
 pub mod rows;
 
 // A label's record: its wanted place and its weight. Its number is the count of labels before it.
-#[derive(Clone, Copy)]
+#[derive(Clone, Copy, Debug, PartialEq, Eq)]
 pub struct LabelRow {
     pub wanted: i64,
     pub weight: i64,
 }
 
 // A record of the text: a label, or a gap of either kind, whose word is gap or same.
-#[derive(Clone, Copy)]
+#[derive(Clone, Copy, Debug, PartialEq, Eq)]
 pub enum Row {
     Label(LabelRow),
     Gap(GapRecord),
 }
 
-// No field of a line; fields count from 1.
+// No field of a line; fields count from 1. It is a number, since a listing prints it as one.
 pub const NO_FIELD: usize = 0;
 
 // What came before a line: so many labels.
-#[derive(Clone, Copy)]
+#[derive(Clone, Copy, Debug, PartialEq, Eq)]
 pub struct Earlier {
     pub labels: usize,
 }
 
-// What the record reader makes of a line: its record, or a refusal's number and the bad field.
-#[derive(Clone, Copy)]
-pub enum Taken {
-    Good(Row),
-    Bad(usize, usize),
+// A line that is no record: its refusal's number, as the definition of a reading has it, and the bad field.
+#[derive(Clone, Copy, Debug, PartialEq, Eq)]
+pub struct BadLine {
+    pub number: usize,
+    pub field: usize,
 }
 
-impl Taken {
-    // The number of the refusal; 0 for a record.
-    pub fn number(self) -> usize
-        ensures { result ≡ refusal_number self }
-    {
-        match self {
-            Taken::Good(_) => 0,
-            Taken::Bad(number, _) => number,
-        }
-    }
+// What the record reader makes of a line.
+pub type Taken = Result<Row, BadLine>;
 
-    // The bad field; none for a record.
-    pub fn field(self) -> usize
-        ensures { result ≡ refusal_field self }
+impl BadLine {
+    // A line that breaks a rule at a field.
+    pub(crate) fn at(rule: Rule, field: usize) -> BadLine
+        ensures { (result.number ≡ number_of_rule rule) × (result.field ≡ field) }
     {
-        match self {
-            Taken::Good(_) => NO_FIELD,
-            Taken::Bad(_, field) => field,
+        BadLine {
+            number: rule.into(),
+            field,
         }
     }
 }

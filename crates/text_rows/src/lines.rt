@@ -3,14 +3,14 @@ ghost use Rattle.std.specs.Prelude.{◌≡◌, ◌+◌, ◌-◌, ◌<◌, ◌≤
 ghost use Rattle.text_rows.specs.LineAt.{LineAt, line_end};
 
 // A position in a text: the byte, and the line counted from 1.
-#[derive(Clone, Copy)]
+#[derive(Clone, Copy, Debug, PartialEq, Eq)]
 pub struct Cursor {
     pub at: usize,
     pub line: usize,
 }
 
 // A line: the byte past its last, and where the next line begins.
-#[derive(Clone, Copy)]
+#[derive(Clone, Copy, Debug, PartialEq, Eq)]
 pub struct Line {
     pub end: usize,
     pub next: Cursor,
@@ -21,12 +21,8 @@ fn end_before(text: &[u8], at: usize, feed: usize) -> usize
     requires { (at ≤ feed) × (feed < length text.now) }
     ensures { result ≡ at + line_end (drop at text.now) (feed - at) }
 {
-    if feed == at {
-        return at;
-    }
-    let last = feed - 1;
-    if text[last] == b'\r' {
-        return last;
+    if at < feed && text[feed - 1] == b'\r' {
+        return feed - 1;
     }
     feed
 }
@@ -36,21 +32,17 @@ pub fn line_at(text: &[u8], from: Cursor) -> Line
     requires { (from.at < length text.now) × (from.line ≤ from.at + 1) }
     ensures { LineAt text.now from result }
 {
-    let at = from.at;
     let line = from.line + 1;
-    let mut i = at;
-    while i < text.len() {
-        if text[i] == b'\n' {
-            let end = end_before(text, at, i);
-            return Line {
-                end,
-                next: Cursor { at: i + 1, line },
-            };
-        }
-        i += 1;
-    }
+    let Some(length) = text[from.at..].iter().position(|byte| *byte == b'\n') else {
+        let end = text.len();
+        return Line {
+            end,
+            next: Cursor { at: end, line },
+        };
+    };
+    let feed = from.at + length;
     Line {
-        end: i,
-        next: Cursor { at: i, line },
+        end: end_before(text, from.at, feed),
+        next: Cursor { at: feed + 1, line },
     }
 }

@@ -3,25 +3,22 @@
 ghost use Rattle.sheet_checks.specs.Lent.{records_lent, room_lent, sheet_lent};
 ghost use Rattle.layout.specs.TwoCalls.{BothPromised};
 
+use ground::lists::Lists;
 use ground::{Answer, GapRecord};
 use layout::lists::lay_out;
 use records::lay_out_records;
 
 // The answers of the two calls.
-#[derive(Clone, Copy)]
+#[derive(Clone, Copy, Debug, PartialEq, Eq)]
 pub struct Both {
     pub first: Answer,
     pub second: Answer,
 }
 
 // Lays out two sheets: the first lends its gaps as lists, the second as records. Anything may be lent.
+// What is written is lent one by one, as to `layout::lists::lay_out`.
 pub fn lay_out_both(
-    wanted: &[i64],
-    weight: &[i64],
-    left: &[usize],
-    right: &[usize],
-    distance: &[i64],
-    kind: &[u8],
+    lists: Lists,
     carried: &mut [u8],
     place_num: &mut [i64],
     place_den: &mut [i64],
@@ -40,7 +37,7 @@ pub fn lay_out_both(
     second_ring: &mut [usize],
     second_back: &mut [u8],
 ) -> Both
-    ensures { let sheet = sheet_lent wanted weight left right distance kind in
+    ensures { let sheet = sheet_lent lists in
         let room = room_lent carried place_num place_den mult_num mult_den ring back in
         let secondSheet = records_lent second_wanted second_weight gaps in
         let secondRoom = room_lent second_carried second_place_num second_place_den second_mult_num second_mult_den second_ring second_back in
@@ -48,8 +45,7 @@ pub fn lay_out_both(
         secondRoom.exit }
 {
     let first = lay_out(
-        wanted, weight, left, right, distance, kind, carried, place_num, place_den, mult_num,
-        mult_den, ring, back,
+        lists, carried, place_num, place_den, mult_num, mult_den, ring, back,
     );
     let second = lay_out_records(
         second_wanted,

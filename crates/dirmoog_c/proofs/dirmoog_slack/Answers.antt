@@ -1,9 +1,9 @@
 -- The number and the two numbers told are those of the slack's answer.
 use Rattle.std.proofs.Common.{◌≡◌, ◌∙◌, ap, rules, w64, FitsSigned, to_z-of_z}
+use Rattle.ground.specs.Answers.{number_of}
 use Rattle.exact.specs.declared.Fraction.{Fraction}
-use Rattle.single_fractions.specs.declared.SlackAnswer.{SlackAnswer}
-use Rattle.single_fractions.specs.Slack.{slack_answer, slack_given, number_of}
-use Rattle.dirmoog_c.proofs.Telling.{told_both, slack_place}
+use Rattle.single_fractions.specs.Slack.{SlackAnswer, slack_answer, slack_given}
+use Rattle.dirmoog_c.proofs.Telling.{told_both, slack_given_told, slack_place}
 use Rattle.dirmoog_c.proofs.dirmoog_slack.Goals as goal
 
 pub returns : goal.returns
@@ -21,14 +21,16 @@ returns c =
       to_z-of_z c.ranges.right_den,
       to_z-of_z c.ranges.distance,
     ) at c.slack-answer.ensures in
-    let given : c.slack-given.result ≡ slack_given asked = c.slack-given.ensures ∙ ap slack_given answered in
+    let told = c.unwrap_or-given.result in
+    let given : told ≡ slack_given asked =
+    c.unwrap_or-given.ensures ∙ slack_given_told c.slack-answer.result ∙ ap slack_given answered in
     -- the numbers told, as they are read back
-    let num_fits : FitsSigned w64 c.slack-given.result.num = search rules in
-    let den_fits : FitsSigned w64 c.slack-given.result.den = search rules in
+    let num_fits : FitsSigned w64 told.num = search rules in
+    let den_fits : FitsSigned w64 told.den = search rules in
     record {
-      returned = c.number.ensures ∙ ap number_of answered;
-      out_told = told_both a.out.now c.put_signed.new.out c.put_signed.ensures
-          (to_z-of_z num_fits ∙ ap (λ (q : Fraction). q.num) given) c.put_signed-2.ensures
+      returned = c.number_of.ensures ∙ ap (λ (r : SlackAnswer). number_of r) answered;
+      out_told = told_both a.out.now c.put.new.out c.put.ensures
+          (to_z-of_z num_fits ∙ ap (λ (q : Fraction). q.num) given) c.put-2.ensures
           (to_z-of_z den_fits ∙ ap (λ (q : Fraction). q.den) given);
       no_place = slack_place _ _ _;
     }

@@ -1,10 +1,13 @@
--- The first k records are taken apart.
-use Rattle.std.proofs.Common.{◌-◌, ◌≤◌}
-use Rattle.records.proofs.Kept.{ApartTo}
+-- The first k records are taken apart. (The check does not know by itself that an array of signed numbers keeps its length.)
+use Rattle.std.proofs.Common.{◌≡◌, length, map, take}
+use Rattle.ground.specs.Limits.{gaps_most}
 use Rattle.records.proofs.take_apart.Given as goal
 
 abbrev pub invariant-loop-k : goal.invariant-loop-k
-invariant-loop-k l = (l.k ≤ 192) × ApartTo l.k l.kept l.left l.right l.distance l.kind
-
-abbrev pub decreases-loop-k : goal.decreases-loop-k
-decreases-loop-k l = 192 - l.k
+invariant-loop-k l = record {
+  lefts : take l.k l.left ≡ map (λ g. g.left) (take l.k l.gaps);
+  rights : take l.k l.right ≡ map (λ g. g.right) (take l.k l.gaps);
+  distances : take l.k l.distance ≡ map (λ g. g.distance) (take l.k l.gaps);
+  distance_length : length l.distance ≡ gaps_most;
+  kinds : take l.k l.kind ≡ map (λ g. g.kind) (take l.k l.gaps);
+}

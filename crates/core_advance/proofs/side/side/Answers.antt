@@ -1,95 +1,83 @@
 -- Each call finds what those before it left, and the laws of a searched block bound it.
 use Rattle.std.proofs.Common.{arith, to_z-of_z}
-use Rattle.core_elimination.proofs.Ranges.{sums_read}
+use Rattle.core_elimination.proofs.Ranges.{total_word}
 use Rattle.core_elimination.proofs.SearchedBlock.{block_ordered, block_listed, block_range, block_sums, surplus_light}
 use Rattle.core_advance.proofs.EndBlock.{shares_moderate, moderate_small, block_breakable}
 use Rattle.core_advance.proofs.side.side.Goals as goal
 
-pub sums-s-requires : goal.sums-s-requires
-sums-s-requires c =
-    let t = c.search_along-count.ensures.0 in
+pub sums-sums-requires : goal.sums-sums-requires
+sums-sums-requires c =
+    let t = c.search_along.ensures.0 in
     (block_listed c.requires.0 t, block_range c.requires.0 t)
 
 pub surplus-requires : goal.surplus-requires
 surplus-requires c =
-    let t = c.search_along-count.ensures.0 in
+    let t = c.search_along.ensures.0 in
     let lim = c.requires.0 in (
       block_listed lim t,
       block_range lim t,
-      block_sums lim t c.sums-s.result c.sums-s.ensures.0 c.sums-s.ensures.1,
+      block_sums lim t c.sums-sums.result c.sums-sums.ensures.0 c.sums-sums.ensures.1,
       rw (to_z-of_z c.ranges.sign) c.requires.3,
     )
 
 pub shared-joined-requires : goal.shared-joined-requires
 shared-joined-requires c =
     let lim = c.requires.0 in
-    (block_listed lim c.search_along-count.ensures.0, omega (arith, lim.labels_bound, c.requires.1, c.requires.2))
+    (block_listed lim c.search_along.ensures.0, omega (arith, lim.labels_bound, c.requires.2))
 
 pub eliminate-requires : goal.eliminate-requires
 eliminate-requires c =
-    let t = c.search_along-count.ensures.0 in
-    let lim = c.requires.0 in (
-      block_ordered lim t,
-      surplus_light lim t c.args.sign c.sums-s.result c.requires.3 (block_sums lim t c.sums-s.result c.sums-s.ensures.0 c.sums-s.ensures.1)
-          (rw (to_z-of_z c.ranges.sign) at c.surplus.ensures),
-    )
+    let t = c.search_along.ensures.0 in
+    let lim = c.requires.0 in
+    let sums = block_sums lim t c.sums-sums.result c.sums-sums.ensures.0 c.sums-sums.ensures.1 in
+    (block_ordered lim t, surplus_light lim t c.args.sign c.sums-sums.result c.requires.3 sums (rw (to_z-of_z c.ranges.sign) at c.surplus.ensures))
 
 pub eliminate-requires-2 : goal.eliminate-requires-2
 eliminate-requires-2 c =
-    let t = c.search_along-count.ensures.0 in
+    let t = c.search_along.ensures.0 in
     let lim = c.requires.0 in
-    let sums = block_sums lim t c.sums-s.result c.sums-s.ensures.0 c.sums-s.ensures.1 in
-    let shares = rw (sums_read sums).0 at c.shared-joined.ensures in
-    (block_ordered lim t, moderate_small (shares_moderate lim t c.shared-joined.result c.args.other.0 c.sums-s.result sums shares.given))
+    let sums = block_sums lim t c.sums-sums.result c.sums-sums.ensures.0 c.sums-sums.ensures.1 in
+    let shares = rw (total_word sums).is at c.shared-joined.ensures in
+    (block_ordered lim t, moderate_small (shares_moderate lim t c.shared-joined.result c.args.other.0 c.sums-sums.result sums shares.given))
 
-pub least_break-first-requires : goal.least_break-first-requires
-least_break-first-requires c =
-    let t = c.search_along-count.ensures.0 in
+pub least_break-requires : goal.least_break-requires
+least_break-requires c =
+    let t = c.search_along.ensures.0 in
     let lim = c.requires.0 in
-    let sums = block_sums lim t c.sums-s.result c.sums-s.ensures.0 c.sums-s.ensures.1 in
-    let shares = rw (sums_read sums).0 at c.shared-joined.ensures in
+    let sums = block_sums lim t c.sums-sums.result c.sums-sums.ensures.0 c.sums-sums.ensures.1 in
+    let shares = rw (total_word sums).is at c.shared-joined.ensures in
     let known =
-    block_breakable lim t c.surplus.new.held c.shared-joined.new.share c.measured_labels.ensures
-    (surplus_light lim t c.args.sign c.sums-s.result c.requires.3 sums (rw (to_z-of_z c.ranges.sign) at c.surplus.ensures))
-    c.measured_labels-2.ensures
-    (shares_moderate lim t c.shared-joined.result c.args.other.0 c.sums-s.result sums shares.given) in
-    (rw (← c.eliminate.ensures, ← c.eliminate-2.ensures) at known, rw (to_z-of_z c.ranges.sign) c.requires.3)
+    block_breakable lim t c.surplus.new.held c.shared-joined.new.share c.surplus.array_long
+    (surplus_light lim t c.args.sign c.sums-sums.result c.requires.3 sums (rw (to_z-of_z c.ranges.sign) at c.surplus.ensures))
+    c.shared-joined.array_long
+    (shares_moderate lim t c.shared-joined.result c.args.other.0 c.sums-sums.result sums shares.given) in
+    (rw (c.eliminate.ensures, c.eliminate-2.ensures) known, rw (to_z-of_z c.ranges.sign) c.requires.3)
 
 pub returns : goal.returns
 returns c =
-    let t = c.search_along-count.ensures.0 in
-    let outside = c.search_along-count.ensures.1 in
-    let lim = c.requires.0 in
-    let sums = block_sums lim t c.sums-s.result c.sums-s.ensures.0 c.sums-s.ensures.1 in
-    let shares = rw (sums_read sums).0 at c.shared-joined.ensures in
+    let t = c.search_along.ensures.0 in
+    let sums = block_sums c.requires.0 t c.sums-sums.result c.sums-sums.ensures.0 c.sums-sums.ensures.1 in
+    let shares = rw (total_word sums).is at c.shared-joined.ensures in
     record {
-      at = c.search_along-count.new.at;
-      queue = c.search_along-count.new.queue;
-      off = c.search_along-count.new.off;
       held = c.eliminate.new.held;
       share = c.eliminate-2.new.held;
       found =
           record {
             tree = t;
-            weight = c.sums-s.ensures.0;
-            wanted = c.sums-s.ensures.1;
+            weight = c.sums-sums.ensures.0;
+            wanted = c.sums-sums.ensures.1;
             joined = shares.joined_is;
             held₀ = _;
             held₁ = c.surplus.new.held;
             surplus = rw (to_z-of_z c.ranges.sign) at c.surplus.ensures;
-            held_size = c.measured_labels.ensures;
+            held_size = c.surplus.array_long;
             held_is = c.eliminate.ensures;
             share₀ = _;
             share₁ = c.shared-joined.new.share;
             shares = shares.given;
-            share_size = c.measured_labels-2.ensures;
+            share_size = c.shared-joined.array_long;
             share_is = c.eliminate-2.ensures;
-            first = rw (to_z-of_z c.ranges.sign) at c.least_break-first.ensures;
+            first = rw (to_z-of_z c.ranges.sign) at c.least_break.ensures;
           };
-      rest =
-          record {
-            top = outside.top;
-            root_via = outside.root_via;
-            unseen = λ x h. let same = outside.unseen x h in (same.via_same, same.up_same);
-          };
+      rest = c.search_along.ensures.1;
     }

@@ -1,10 +1,6 @@
 -- Each turn wishes one gap more, or none.
-use Rattle.std.proofs.Common.{◌-◌, ◌≤◌}
 use Rattle.core_guess.specs.Guess.{Wished}
 use Rattle.core_dual.proofs.dual.wish_all.Given as goal
 
 abbrev pub invariant-loop-i : goal.invariant-loop-i
-invariant-loop-i l = (l.i ≤ l.labels) × Wished l.gaps l.initial.wish l.wish
-
-abbrev pub decreases-loop-i : goal.decreases-loop-i
-decreases-loop-i l = l.labels - l.i
+invariant-loop-i l = Wished l.gaps l.initial.wish l.wish

@@ -1,8 +1,8 @@
 -- The listing is that of the answer that the number and the place tell.
 use Rattle.std.proofs.Common.{◌∙◌, ap}
-use Rattle.ground.specs.declared.Answer.{Answer}
-use Rattle.text_listing.specs.Listing.{Listable, Listing, listable_now, listed_in, number_of, bytes_of}
-use Rattle.dirmoog_c.proofs.Telling.{told_at, listing_place}
+use Rattle.ground.specs.Answers.{Answer, number_of}
+use Rattle.text_listing.specs.Listing.{Listable, Listed, Listing, listable_now, listed_in, bytes_of}
+use Rattle.dirmoog_c.proofs.Telling.{bytes_told, told_at, listing_place}
 use Rattle.dirmoog_c.proofs.text.dirmoog_listing.Goals as goal
 
 pub returns : goal.returns
@@ -14,7 +14,7 @@ returns c =
     let answer = wrote.0 ∙ ap (λ (l : Listing). l.answer) listing in
     record {
       written = wrote.1 ∙ ap (λ (l : Listing). l.buffer) listing;
-      returned = c.listed_number.ensures ∙ ap number_of answer;
-      out_told = told_at a.out.now 0 c.put.ensures (c.listed_bytes.ensures ∙ ap bytes_of answer);
+      returned = c.number_of.ensures ∙ ap (λ (r : Listed). number_of r) answer;
+      out_told = told_at a.out.now 0 c.put.ensures (c.unwrap_or.ensures ∙ bytes_told c.write_listing-listed.result ∙ ap bytes_of answer);
       no_place = listing_place _ _ _ _;
     }

@@ -1,7 +1,7 @@
-use Rattle.std.proofs.Common.{ℕ, List, ℤ, pos, get_or, refl, sym, ap, ◌∙◌, add-one, arith, FitsSigned, w64, rules}
+use Rattle.std.proofs.Common.{◌++◌, ℕ, List, ℤ, pos, take, get_or, length, sym, ap, ◌∙◌, add-one, arith, FitsSigned, w64, rules}
 use mir.ValLaws.{to_z-of_z}
-use Rattle.text_listing.proofs.Appending.{nothing, then, told}
 use Rattle.text_listing.specs.Appended.{Appended}
+use Rattle.text_listing.proofs.Appending.{longer, told}
 use Rattle.text_listing.specs.Listing.{place_record, place_records, unit_at, unit_of}
 use Rattle.text_listing.proofs.Size.{length_place_record}
 use Rattle.text_listing.proofs.listing.put_places.Goals as goal
@@ -12,7 +12,7 @@ records nums dens n = place_records n nums dens (unit_at nums dens)
 
 pub loop-label-init : goal.loop-label-init
 unfolding place_records
-loop-label-init c = (omega arith, refl, omega arith, nothing c.args.buf.now 0 (omega arith))
+loop-label-init c = (c.requires.2, omega (arith, ap length c.requires.2))
 
 pub loop-label-preserved : goal.loop-label-preserved
 unfolding place_records
@@ -24,11 +24,11 @@ loop-label-preserved c =
     let den = get_or a.place_den.now l.label (pos 0) in
     let fn : FitsSigned w64 num = search rules in
     let fd : FitsSigned w64 den = search rules in
-    let p : Appended l.buf l.at (place_record l.label num den (unit_of num den)) c.put_place-at.new.buf c.put_place-at.result =
+    let next = c.put_place.new.text in
+    let p : Appended (take l.text.end l.text.bytes) (place_record l.label num den (unit_of num den)) (take next.end next.bytes) =
     told (λ i. place_record l.label (to_z-of_z w64 num fn i) (to_z-of_z w64 den fd i)
-    (unit_of (to_z-of_z w64 num fn i) (to_z-of_z w64 den fd i))) c.put_place-at.ensures in (
-      omega arith,
-      c.put_place-at.auto.buf ∙ i.1,
-      omega (arith, i.2, p.ends, length_place_record l.label num den (omega arith) fn fd),
-      told (ap (records a.place_num.now a.place_den.now) (sym (add-one l.label))) (then i.3 p),
+    (unit_of (to_z-of_z w64 num fn i) (to_z-of_z w64 den fd i))) c.put_place.ensures in (
+      p.joined ∙ ap (λ (t : List ℕ). t ++ place_record l.label num den (unit_of num den)) i.0
+          ∙ ap (records a.place_num.now a.place_den.now) (sym (add-one l.label)),
+      omega (arith, i.1, longer p, length_place_record l.label num den (omega arith) fn fd),
     )

@@ -1,54 +1,34 @@
-use Rattle.std.proofs.Common.{get_or, refl, ap, arith}
-use Rattle.text_rows.specs.Fields.{natural}
-use Rattle.text_rows.specs.Numeral.{all_digits, value_of}
-use Rattle.text_rows.proofs.DigitLaws.{is_digit_lem, below_no_digit, above_no_digit, blank_none, long_none, told_small, told_more, told_stop, told_all}
+use Rattle.std.proofs.Common.{sym, ◌∙◌, arith}
+use borrow.Author.Tests.{eqb-true, eqb-false}
+use Rattle.text_rows.proofs.DigitLaws.{blank_none, long_none, told_none, told_small, told_more, told_stop, told_all}
+use Rattle.text_rows.proofs.field.number.Goals.{then-is_empty-via-then-is_empty, then-is_empty-via-else-is_empty+then-field-gt-DIGITS_MOST}
 use Rattle.text_rows.proofs.field.number.Goals as goal
 
-pub returns-then-field-lt1 : goal.returns-then-field-lt1
-returns-then-field-lt1 c = ap natural (blank_none c.args.field.now (omega arith))
+pub returns-then-is_empty : goal.returns-then-is_empty
+returns-then-is_empty c =
+    elim c.then-is_empty.branch [
+      | then-is_empty-via-then-is_empty w ↦ blank_none c.args.field.now (eqb-true _ 0 (sym c.is_empty.ensures ∙ w.if-is_empty.true))
+      | then-is_empty-via-else-is_empty+then-field-gt-DIGITS_MOST w ↦ long_none c.args.field.now w.if-field-gt-DIGITS_MOST.true
+    ]
 
-pub returns-then-field-gt-DIGITS_MOST : goal.returns-then-field-gt-DIGITS_MOST
-returns-then-field-gt-DIGITS_MOST c = ap natural (long_none c.args.field.now (omega arith))
+pub loop-digit-init : goal.loop-digit-init
+loop-digit-init c = told_none c.args.field.now
 
-pub loop-i-init : goal.loop-i-init
-unfolding all_digits value_of
-loop-i-init c = (omega arith, (refl, refl))
-
-pub returns-then-digit-lt48 : goal.returns-then-digit-lt48
-returns-then-digit-lt48 c =
-    let f = c.args.field.now in
-    let l = c.loop-i in
-    ap natural (told_stop f l.i l.value l.invariant.1 (omega arith)
-    (below_no_digit (get_or f l.i 0) (omega arith)))
-
-pub returns-then-digit-gt57 : goal.returns-then-digit-gt57
-returns-then-digit-gt57 c =
-    let f = c.args.field.now in
-    let l = c.loop-i in
-    ap natural (told_stop f l.i l.value l.invariant.1 (omega arith)
-    (above_no_digit (get_or f l.i 0) (omega arith)))
+pub returns-then-not-is_ascii_digit : goal.returns-then-not-is_ascii_digit
+returns-then-not-is_ascii_digit c =
+    told_stop c.loop-digit.invariant (omega arith) (sym c.is_ascii_digit.ensures.value ∙ c.if-not-is_ascii_digit.true)
 
 pub overflow_mul-value : goal.overflow_mul-value
-overflow_mul-value c =
-    let l = c.loop-i in
-    omega (arith, told_small c.args.field.now l.i l.value l.invariant.1 (omega arith) (omega arith))
+overflow_mul-value c = omega (arith, told_small c.loop-digit.invariant (omega arith) (omega arith))
 
 pub overflow_add-value : goal.overflow_add-value
-overflow_add-value c =
-    let l = c.loop-i in
-    omega (arith, told_small c.args.field.now l.i l.value l.invariant.1 (omega arith) (omega arith))
+overflow_add-value c = omega (arith, told_small c.loop-digit.invariant (omega arith) (omega arith))
 
-pub loop-i-preserved : goal.loop-i-preserved
-loop-i-preserved c =
-    let f = c.args.field.now in
-    let l = c.loop-i in (
-      omega arith,
-      told_more f l.i l.value l.invariant.1 (omega arith)
-          (is_digit_lem (get_or f l.i 0) (omega arith) (omega arith)),
-    )
+pub loop-digit-preserved : goal.loop-digit-preserved
+loop-digit-preserved c =
+    rw c.from.ensures
+    (told_more c.loop-digit.invariant (omega arith) (sym c.is_ascii_digit.ensures.value ∙ c.if-not-is_ascii_digit.false))
 
 pub returns : goal.returns
 returns c =
-    let l = c.loop-i in
-    ap natural (told_all c.args.field.now l.i l.value l.invariant.1
-    (omega arith) (omega arith) (omega arith))
+    told_all c.loop-digit.invariant (omega arith) (eqb-false _ 0 (sym c.is_empty.ensures ∙ c.if-is_empty.false)) (omega arith)

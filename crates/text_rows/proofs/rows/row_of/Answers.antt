@@ -1,33 +1,36 @@
 -- `text_rows::rows::row_of` meets its contract: the first field decides.
-use Rattle.std.proofs.Common.{◌≡◌, true, false, sym, ◌∙◌}
-use Rattle.text_rows.specs.Taking.{same_bytes, label_word, gap_word, same_word, row_of}
+use Rattle.std.proofs.Common.{arith}
+use Rattle.text_rows.specs.Taking.{label_word, gap_word, same_word, row_of}
+use Rattle.text_rows.proofs.FieldLaws.{other_word, spelled}
 use Rattle.text_rows.proofs.rows.row_of.Goals as goal
 
-pub returns-then-is_word : goal.returns-then-is_word
+pub returns-in-label : goal.returns-in-label
 unfolding row_of
-returns-then-is_word c =
-    let label : same_bytes c.args.word.now label_word ≡ true = sym c.is_word.ensures ∙ c.if-is_word.true in
-    rw label c.label_row.ensures
+returns-in-label c =
+    rw (spelled c.args.word.now label_word (omega arith) (omega arith)) c.label_row.ensures
 
-pub returns-then-is_word-2 : goal.returns-then-is_word-2
+pub returns-in-gap : goal.returns-in-gap
 unfolding row_of
-returns-then-is_word-2 c =
-    let no_label : same_bytes c.args.word.now label_word ≡ false = sym c.is_word.ensures ∙ c.if-is_word.false in
-    let gap : same_bytes c.args.word.now gap_word ≡ true = sym c.is_word-2.ensures ∙ c.if-is_word-2.true in
-    rw (no_label, gap) c.gap_row.ensures
+returns-in-gap c =
+    let word = c.args.word.now in
+    rw (other_word word label_word (omega arith), spelled word gap_word (omega arith) (omega arith)) c.gap_row.ensures
 
-pub returns-then-is_word-3 : goal.returns-then-is_word-3
+pub returns-in-same : goal.returns-in-same
 unfolding row_of
-returns-then-is_word-3 c =
-    let no_label : same_bytes c.args.word.now label_word ≡ false = sym c.is_word.ensures ∙ c.if-is_word.false in
-    let no_gap : same_bytes c.args.word.now gap_word ≡ false = sym c.is_word-2.ensures ∙ c.if-is_word-2.false in
-    let exactly : same_bytes c.args.word.now same_word ≡ true = sym c.is_word-3.ensures ∙ c.if-is_word-3.true in
-    rw (no_label, no_gap, exactly) c.gap_row-then-is_word-3.ensures
+returns-in-same c =
+    let word = c.args.word.now in
+    rw (
+      other_word word label_word (omega arith),
+      other_word word gap_word (omega arith),
+      spelled word same_word (omega arith) (omega arith),
+    ) c.gap_row-in-same.ensures
 
-pub returns : goal.returns
+pub returns-in_default : goal.returns-in_default
 unfolding row_of
-returns c =
-    let no_label : same_bytes c.args.word.now label_word ≡ false = sym c.is_word.ensures ∙ c.if-is_word.false in
-    let no_gap : same_bytes c.args.word.now gap_word ≡ false = sym c.is_word-2.ensures ∙ c.if-is_word-2.false in
-    let no_same : same_bytes c.args.word.now same_word ≡ false = sym c.is_word-3.ensures ∙ c.if-is_word-3.false in
-    rw (no_label, no_gap, no_same)
+returns-in_default c =
+    let word = c.args.word.now in
+    rw (
+      other_word word label_word (grind arith),
+      other_word word gap_word (grind arith),
+      other_word word same_word (grind arith),
+    ) (grind arith)

@@ -1,9 +1,0 @@
--- The measure is how many steps are left.
-use Rattle.std.proofs.Common.{◌-◌, ◌≤◌}
-use Rattle.bench_sheets.proofs.print_ring.Given as goal
-
-abbrev pub invariant-loop-k : goal.invariant-loop-k
-invariant-loop-k g l = l.k ≤ l.count
-
-abbrev pub decreases-loop-k : goal.decreases-loop-k
-decreases-loop-k g l = l.count - l.k

@@ -1,9 +1,0 @@
--- The measure is what is left of the record.
-use Rattle.std.proofs.Common.{◌-◌, ◌≤◌}
-use Rattle.both_forms.proofs.marks_of.Given as goal
-
-abbrev pub invariant-loop-e : goal.invariant-loop-e
-invariant-loop-e l = l.e ≤ 256
-
-abbrev pub decreases-loop-e : goal.decreases-loop-e
-decreases-loop-e l = 256 - l.e

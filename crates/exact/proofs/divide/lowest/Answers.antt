@@ -1,7 +1,0 @@
-use Rattle.std.proofs.Common.{rules}
-use Rattle.exact.proofs.Divisor.{none_divides}
-use Rattle.exact.proofs.divide.lowest.Goals as goal
-
--- where none is known, the divisor is that of 0/1
-pub divisor-requires : goal.divisor-requires
-divisor-requires c = (search rules, rw c.no_divisor.ensures none_divides)
