@@ -20,7 +20,7 @@ fn print_marks(rt: &impl Print, carried: &[u8]) -> io::Result<()> {
     println!(rt)
 }
 
-// Writes the places of so many labels, the multipliers of all gaps, and the marks.
+// Writes the places of so many labels, the multipliers of all gaps, and the marks, one by one as they were lent.
 fn print_placed(
     rt: &impl Print,
     labels: usize,
@@ -117,7 +117,8 @@ fn show_entry(rt: &impl Print, entry: &[u8]) -> io::Result<()> {
     show_text(rt, text)
 }
 
-// Takes the sheets apart. (These lines stand in three programs: with a closure for what is shown they would be no fewer.)
+// Takes the sheets apart. (What stands behind the last byte 0 is none, so `split` does not do. These lines stand in
+// three programs: with a closure for what is shown they would be no fewer.)
 fn show_all(rt: &impl Print, sheets: &[u8]) -> io::Result<()> {
     let mut rest = sheets;
     while let Some((entry, others)) = split_at_byte(rest, 0) {

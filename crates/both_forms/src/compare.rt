@@ -19,7 +19,7 @@ fn print_verdict(rt: &impl Print, same: bool) -> io::Result<()> {
     }
 }
 
-// Writes so many fractions under a word, beside those of another call.
+// Writes so many fractions under a word, beside those of another call: numerators and denominators, as C lends them.
 fn print_beside(
     rt: &impl Print,
     word: &str,

@@ -46,7 +46,7 @@ pub fn first_line(entry: &[u8]) -> usize
 }
 
 // Writes a fraction: a space, the numerator, and the denominator where it is not 1.
-pub fn print_fraction(rt: &impl Print, num: i64, den: i64) -> io::Result<()> {
+fn print_fraction(rt: &impl Print, num: i64, den: i64) -> io::Result<()> {
     print!(rt; " {num}")?;
     if den != 1 {
         let below = den.unsigned_abs();

@@ -32,7 +32,8 @@ fn shared(p: &Problem, other: Label, total: i64, w: &Work, share: &mut LabelInts
 }
 
 // Searches the block of the root, and eliminates what its labels lack of their balance, times the sign, and their
-// shares of the push. (The sign is 1 or -1, a number as it is multiplied by.)
+// shares of the push. (The sign is 1 or -1, a number as it is multiplied by.
+// It has the two ends of the push turned at the second call, so they are no struct.)
 pub(crate) fn side(
     p: &Problem,
     mark: &GapBytes,

@@ -16,7 +16,8 @@ pub struct MaybeGap(pub u8);
 impl MaybeGap {
     pub const NONE: MaybeGap = MaybeGap(NO_GAP);
 
-    // In the search for an order, in place of a gap to look at: the label is new, or done.
+    // In the search for an order, in place of a gap to look at: the label is new, or done. (Bytes beside those of gaps: the search reads one
+    // array, and an enum with a gap in it takes two bytes and more.)
     pub const NEW: MaybeGap = MaybeGap(254);
 
     pub const DONE: MaybeGap = MaybeGap(253);

@@ -11,30 +11,21 @@ use ground::limits::{GAPS, LABELS};
 use ground::lists::Lists;
 use ground::problem::Problem;
 
-// The sheet in work arrays.
-fn taken(lists: Lists) -> Problem
+// Takes the sheet into work arrays. (They are the caller's, so that none is copied.)
+fn take(lists: Lists, p: &mut Problem)
     requires { Listed (problem_in lists) }
-    ensures { Held (problem_in lists.entry) result }
+    ensures { Held (problem_in lists.entry) p.new }
 {
     let labels = lists.wanted.len();
     let gaps = lists.left.len();
-    let mut p = Problem {
-        labels,
-        gaps,
-        left: [0; GAPS],
-        right: [0; GAPS],
-        distance: [0; GAPS],
-        kind: [0; GAPS],
-        wanted: [0; LABELS],
-        weight: [0; LABELS],
-    };
+    p.labels = labels;
+    p.gaps = gaps;
     copy_front(gaps, lists.left, &mut p.left);
     copy_front(gaps, lists.right, &mut p.right);
     copy_front(gaps, lists.distance, &mut p.distance);
     copy_front(gaps, lists.kind, &mut p.kind);
     copy_front(labels, lists.wanted, &mut p.wanted);
     copy_front(labels, lists.weight, &mut p.weight);
-    p
 }
 
 // Finds the least move. Placed: the first entries of the buffers hold places and multipliers in lowest terms, and the carried bytes the
@@ -54,7 +45,17 @@ pub fn project(
     ensures { let b = buffers_lent place_num place_den mult_num mult_den carried ring back in
         ProjectSays (problem_in lists.entry) result b.entry b.exit }
 {
-    let p = taken(lists);
+    let mut p = Problem {
+        labels: 0,
+        gaps: 0,
+        left: [0; GAPS],
+        right: [0; GAPS],
+        distance: [0; GAPS],
+        kind: [0; GAPS],
+        wanted: [0; LABELS],
+        weight: [0; LABELS],
+    };
+    take(lists, &mut p);
     let mut proposed = [0u8; GAPS];
     copy_front(p.gaps, carried, &mut proposed);
     let mut s = State::new();

@@ -22,7 +22,8 @@ fn reduced(num: i64, den: i64, known: &mut Divisor) -> Fraction
     lowest_by(num, den, *known)
 }
 
-// Writes fractions in lowest terms. Those of one block often share the divisor.
+// Writes fractions in lowest terms. Those of one block often share the divisor. (Numerators and denominators are lists of their own, as C
+// lends them.)
 pub(crate) fn fractions_out(
     count: usize,
     num: &[i64],

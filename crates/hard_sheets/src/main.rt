@@ -133,7 +133,8 @@ fn show_entry(rt: &impl Print, entry: &[u8]) -> io::Result<usize>
     show_text(rt, text)
 }
 
-// Takes the sheets apart. Counts the calls in which the outer loop ran. (A closure that counted would lose the count's bound.)
+// Takes the sheets apart. Counts the calls in which the outer loop ran. (What stands behind the last byte 0 is no
+// sheet, so `split` does not do; a closure that counted would lose the count's bound.)
 fn show_all(rt: &impl Print, sheets: &[u8]) -> io::Result<usize>
     requires { length sheets.now ≤ 65536 }
 {

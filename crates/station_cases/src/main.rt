@@ -17,7 +17,8 @@ fn show(rt: &impl Print, entry: &[u8]) -> io::Result<()> {
     rt.write_all(&out[..size])
 }
 
-// Takes the texts apart. (These lines stand in three programs: with a closure for what is shown they would be no fewer.)
+// Takes the texts apart. (What stands behind the last byte 0 is none, so `split` does not do. These lines stand in
+// three programs: with a closure for what is shown they would be no fewer.)
 fn show_all(rt: &impl Print, texts: &[u8]) -> io::Result<()> {
     let mut rest = texts;
     while let Some((entry, others)) = split_at_byte(rest, 0) {
