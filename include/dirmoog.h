@@ -8,8 +8,8 @@
  * so threads may call them at once.
  *
  * The caller sees to the stack: nothing checks that there is enough. Arguments and return address included,
- * dirmoog_layout needs at most 18,632 bytes, dirmoog_read 5,920, dirmoog_listing 25,416, dirmoog_slack 56,
- * dirmoog_round and dirmoog_round_half_up 8. What memcpy and memset need comes on top: a first call that has
+ * dirmoog_layout needs at most 18,840 bytes, dirmoog_read 5,848, dirmoog_listing 24,880, dirmoog_slack 56,
+ * dirmoog_round 24, dirmoog_round_half_up 16. What memcpy and memset need comes on top: a first call that has
  * them looked up took at most 2,232 bytes more on one machine and 3,152 on another. 32 KiB are enough.
  *
  * Every call returns 0, or the number of a refusal. A refused call writes nothing but what its comment names.
