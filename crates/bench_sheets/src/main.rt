@@ -2,13 +2,44 @@
 // Lays out the bench sheets of document 01 that have no P, and sheets with exact gaps, each from three carried records,
 // and prints places, multipliers, marks and rings. Each sheet has a line with its name in front and a byte 0, which no
 // sheet has, behind.
-use console::{INPUT_MOST, first_line, print_fractions, print_steps, read_full, split_at_byte};
+use console::{INPUT_MOST, first_line, read_full, split_at_byte};
 use ground::Refusal;
 use ground::limits::{GAPS, GapBytes, LABELS};
 use ground::lists::Lists;
 use layout::lists::lay_out;
 use std::io;
 use text_reading::problem::{lists_of, read_problem};
+
+// Writes a fraction: a space, the numerator, and the denominator where it is not 1. (Private here and in both_forms: no contract can
+// say what is printed, and a public function that promises nothing is not lent.)
+fn print_fraction(rt: &impl Print, num: i64, den: i64) -> io::Result<()> {
+    print!(rt; " {num}")?;
+    if den != 1 {
+        let below = den.unsigned_abs();
+        print!(rt; "/{below}")?;
+    }
+    Ok(())
+}
+
+// Writes so many fractions.
+fn print_fractions(rt: &impl Print, count: usize, num: &[i64], den: &[i64]) -> io::Result<()> {
+    for (num, den) in num.iter().zip(den).take(count) {
+        print_fraction(rt, *num, *den)?;
+    }
+    Ok(())
+}
+
+// Writes so many steps of a ring, as its two buffers have them: the gaps' numbers, and the word back in front of one that is passed
+// backwards.
+fn print_steps(rt: &impl Print, count: usize, ring: &[usize], back: &[u8]) -> io::Result<()> {
+    for (gap, back) in ring.iter().zip(back).take(count) {
+        if *back != 0 {
+            print!(rt; " back")?;
+        }
+        print!(rt; " {gap}")?;
+    }
+    Ok(())
+}
 
 // Writes the numbers of the marked gaps in a line.
 fn print_marks(rt: &impl Print, carried: &[u8]) -> io::Result<()> {

@@ -2,7 +2,6 @@
 ghost use Rattle.std.specs.Prelude.{◌≤◌};
 ghost use Rattle.ground.specs.Limits.{labels_most, gaps_most};
 
-use console::{print_fractions, print_steps};
 use ground::Answer;
 use ground::answers::{number_of, place_of, ring_of};
 use ground::limits::{GAPS, LABELS};
@@ -17,6 +16,37 @@ fn print_verdict(rt: &impl Print, same: bool) -> io::Result<()> {
     } else {
         println!(rt; "; OTHER")
     }
+}
+
+// Writes a fraction: a space, the numerator, and the denominator where it is not 1. (Private here and in bench_sheets: no contract can
+// say what is printed, and a public function that promises nothing is not lent.)
+fn print_fraction(rt: &impl Print, num: i64, den: i64) -> io::Result<()> {
+    print!(rt; " {num}")?;
+    if den != 1 {
+        let below = den.unsigned_abs();
+        print!(rt; "/{below}")?;
+    }
+    Ok(())
+}
+
+// Writes so many fractions.
+fn print_fractions(rt: &impl Print, count: usize, num: &[i64], den: &[i64]) -> io::Result<()> {
+    for (num, den) in num.iter().zip(den).take(count) {
+        print_fraction(rt, *num, *den)?;
+    }
+    Ok(())
+}
+
+// Writes so many steps of a ring, as its two buffers have them: the gaps' numbers, and the word back in front of one that is passed
+// backwards.
+fn print_steps(rt: &impl Print, count: usize, ring: &[usize], back: &[u8]) -> io::Result<()> {
+    for (gap, back) in ring.iter().zip(back).take(count) {
+        if *back != 0 {
+            print!(rt; " back")?;
+        }
+        print!(rt; " {gap}")?;
+    }
+    Ok(())
 }
 
 // Writes so many fractions under a word, beside those of another call: numerators and denominators, as C lends them.

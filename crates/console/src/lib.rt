@@ -44,32 +44,3 @@ pub fn first_line(entry: &[u8]) -> usize
 {
     split_at_byte(entry, b'\n').map_or(entry.len(), |(name, _)| name.len() + 1)
 }
-
-// Writes a fraction: a space, the numerator, and the denominator where it is not 1.
-fn print_fraction(rt: &impl Print, num: i64, den: i64) -> io::Result<()> {
-    print!(rt; " {num}")?;
-    if den != 1 {
-        let below = den.unsigned_abs();
-        print!(rt; "/{below}")?;
-    }
-    Ok(())
-}
-
-// Writes so many fractions.
-pub fn print_fractions(rt: &impl Print, count: usize, num: &[i64], den: &[i64]) -> io::Result<()> {
-    for (num, den) in num.iter().zip(den).take(count) {
-        print_fraction(rt, *num, *den)?;
-    }
-    Ok(())
-}
-
-// Writes so many steps of a ring, as its two buffers have them: the gaps' numbers, and the word back in front of one that is passed backwards.
-pub fn print_steps(rt: &impl Print, count: usize, ring: &[usize], back: &[u8]) -> io::Result<()> {
-    for (gap, back) in ring.iter().zip(back).take(count) {
-        if *back != 0 {
-            print!(rt; " back")?;
-        }
-        print!(rt; " {gap}")?;
-    }
-    Ok(())
-}
