@@ -1,7 +1,9 @@
 #![tactic(auto)]
 // What the programs share that read the standard input whole, many sheets or one.
+ghost use Rattle.console.specs.Lines.{first_line_size};
+ghost use Rattle.console.specs.Reads.{FullOrAtEnd};
 ghost use Rattle.std.specs.Io.{ReadsAtMost};
-ghost use Rattle.std.specs.Io.KnownBytes.{Consumes, IsAtEnd};
+ghost use Rattle.std.specs.Io.KnownBytes.{Consumes};
 ghost use Rattle.std.specs.Prelude.{◌≡◌, ◌<◌, ◌≤◌, ◌++◌, ◌∷◌, IfOk, IfSome, IsSome, ◌↔◌, Contains, length, take};
 
 use std::io;
@@ -15,7 +17,7 @@ pub const INPUT_MOST: usize = 65536;
 pub fn read_full<R: Read>(input: &mut R, buffer: &mut [u8]) -> io::Result<usize>
     ensures within { ReadsAtMost result buffer.new }
     ensures bytes { IfOk result (λ n. Consumes (R.remaining input.old) (R.remaining input.new) (take n buffer.new)) }
-    ensures end { IfOk result (λ n. n < length buffer.new → IsAtEnd (R.remaining input.new)) }
+    ensures end { FullOrAtEnd result buffer.new (R.remaining input.new) }
 {
     let mut done: usize = 0;
     while done < buffer.len() {
@@ -38,9 +40,11 @@ pub fn split_at_byte(bytes: &[u8], byte: u8) -> Option<(&[u8], &[u8])>
     Some((&bytes[..at], &bytes[at + 1..]))
 }
 
-// How long the first line is, with its end.
+// How long the first line is, with its end, an LF. Where none stands it is all of the bytes.
+#[tactic(auto, using(crate::proofs::FirstLine::first_line_cut, crate::proofs::FirstLine::first_line_whole))]
 pub fn first_line(entry: &[u8]) -> usize
-    ensures { result ≤ length entry.now }
+    ensures within { result ≤ length entry.now }
+    ensures size { result ≡ first_line_size entry.now }
 {
     split_at_byte(entry, b'\n').map_or(entry.len(), |(name, _)| name.len() + 1)
 }

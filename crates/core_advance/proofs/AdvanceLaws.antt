@@ -112,7 +112,7 @@ module _ {p : Problem} {mark : List ℕ} {root other : ℕ} {sign : ℤ} {r : Si
       no_later_trans x r.first (breaks k) h first_above (breaks_above k s l) n (rw f.first (least_no_later r.count breaks breaks_above k s l))
 
   abbrev pub searched_from : {work₀ : Work} → Outside p.labels root r.count work₀ work → SearchedFrom p mark root work₀ work
-  searched_from rest = record { count = r.count; tree = f.tree; rest = rest }
+  searched_from rest = record { tree = rw (← f.counted) at f.tree; rest = rw (← f.counted) at rest }
 
   pub stands_apart : r.joined ≡ false → nat work.at other ≡ 0
   stands_apart is = omega (arith, ltb-false 0 (nat work.at other) (sym f.joined ∙ is))
@@ -157,8 +157,8 @@ module _ {p : Problem} {mark : List ℕ} (push : Push) {one : Side} {work : Work
   -- where there is none nothing does: the way from the one end up to the other is where the shares are above zero
   blocked : one.first ≡ None → BlockedBy p mark push work
   blocked is =
-      record {
-        count = one.count;
+      rw f.counted
+      (record {
         tree = f.tree;
         joined = ltb-true 0 (nat work.at push.to.0) both;
         on_way = λ x. le_z (pos 1) (int share x);
@@ -167,7 +167,7 @@ module _ {p : Problem} {mark : List ℕ} (push : Push) {one : Side} {work : Work
             let some = le_z-of_test {a = pos 1} {b = int share (nat work.queue k)} way in
             test_of_le_z {a = pos 1} {b = int share (nat work.up (nat work.queue k))} (le_trans some (share_climbs lim f k s l));
         points = points;
-      }
+      })
     where
       starts : le_z (pos 1) (int share push.to.0) ≡ true
       starts =

@@ -36,8 +36,7 @@ pub record GapReached (p : Problem) (mark : List ℕ) (push : Push) : Type 0 whe
       (F : ℕ → Bool) → With p.gaps (marks_of mark) c F → Reached (numbers_of p) F num den
 
 -- nothing gives way: the way from b up to a has no gap of the kind at least that points away from a
-pub record Blocked (p : Problem) (mark : List ℕ) (a b : ℕ) (at queue via up : List ℕ) (off : List ℤ) : Type 0 where
-  pub count : ℕ
+pub record Blocked (p : Problem) (mark : List ℕ) (a b count : ℕ) (at queue via up : List ℕ) (off : List ℤ) : Type 0 where
   pub tree : Tree (graph_of p mark) a count at queue via up off
   pub joined : 0 < nat at b
   pub on_way : ℕ → Bool
@@ -49,7 +48,7 @@ pub record Blocked (p : Problem) (mark : List ℕ) (a b : ℕ) (at queue via up 
 
 -- the same of what the search of the block of a left
 abbrev pub BlockedBy : Problem → List ℕ → Push → Work → Type 0
-BlockedBy p mark push w = Blocked p mark push.from.0 push.to.0 w.at w.queue w.via w.up w.off
+BlockedBy p mark push w = Blocked p mark push.from.0 push.to.0 w.count w.at w.queue w.via w.up w.off
 
 -- what each outcome says; only a ring is read out of the search
 abbrev pub Gives : Problem → List ℕ → Push → Outcome → Work → Type 0
@@ -59,9 +58,8 @@ Gives p mark push Ring w = BlockedBy p mark push w
 
 -- after a search of the block of the root
 pub record SearchedFrom (p : Problem) (mark : List ℕ) (root : ℕ) (w₀ w : Work) : Type 0 where
-  pub count : ℕ
-  pub tree : Tree (graph_of p mark) root count w.at w.queue w.via w.up w.off
-  pub rest : Outside p.labels root count w₀ w
+  pub tree : Tree (graph_of p mark) root w.count w.at w.queue w.via w.up w.off
+  pub rest : Outside p.labels root w.count w₀ w
 
 -- after a search of the block of a, in which b does not stand, and then of that of b
 pub record BothSearched (p : Problem) (mark : List ℕ) (a b : ℕ) (w₀ w : Work) : Type 0 where

@@ -19,6 +19,7 @@ share_of p r other x = cond r.joined (only_at other r.sums.weight x) (int p.weig
 
 -- the block as a search leaves it, and what its two eliminations and its breaking points come to
 pub record SideFound (p : Problem) (mark : List ℕ) (root other : ℕ) (sign : ℤ) (r : Side) (w : Work) (held share : List ℤ) : Type 0 where
+  pub counted : w.count ≡ r.count
   pub tree : Tree (graph_of p mark) root r.count w.at w.queue w.via w.up w.off
   pub weight : r.sums.weight ≡ weight_sum r.count w.queue p.weight
   pub wanted : r.sums.wanted ≡ wanted_sum r.count w.queue w.off p.wanted p.weight

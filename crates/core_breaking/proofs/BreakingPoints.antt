@@ -7,10 +7,10 @@ use mathlib.Core.List.{List}
 use native.Mathlib.Omega.{arith}
 use native.Mathlib.Numerals.{add-one}
 use lib.Dec.{eqb}
-use lib.IntN.{ℤ, pos, ◌*ℤ◌}
+use lib.IntN.{ℤ, pos, negsuc, ◌*ℤ◌}
 use lib.Signed.{◌≤ℤ◌, ◌<ℤ◌, le_z, lt_z}
 use mir.Syntax.{w64}
-use mir.Val.{SFits}
+use mir.Val.{SFits, to_z, of_z}
 use mir.ValLaws.{to_z-of_z}
 use borrow.Author.Tests.{eqb-true, eqb-false, eq-eqb, ne_eqb}
 use Rattle.std.specs.Prelude.{Option, Some, None}
@@ -115,6 +115,18 @@ nearer_none a b = (
 )
 
 -- ---- the breaking point at a position
+
+-- the end of a gap by the test on the sign's bits
+module _ (sign : ℤ) (fits : SFits w64 sign) (left right : List ℕ) (e : ℕ) where
+  pub losing_right : of_z w64 sign ≡ 1 → nat right e ≡ losing_end sign left right e
+  losing_right h = sym (ap (λ (s : ℤ). losing_end s left right e) (sym (to_z-of_z w64 sign fits) ∙ ap (to_z w64) h))
+
+  pub losing_left : (of_z w64 sign ≡ 1 → ⊥) → nat left e ≡ losing_end sign left right e
+  losing_left ne = go sign (λ (h : sign ≡ pos 1). ne (ap (of_z w64) h))
+    where
+      go : (s : ℤ) → (s ≡ pos 1 → ⊥) → nat left e ≡ losing_end s left right e
+      go (pos s) other = rw (ne_eqb s 1 (λ (h : s ≡ 1). other (ap pos h)))
+      go (negsuc s) other = refl
 
 not_false : (b : Bool) → not b ≡ false → b ≡ true
 not_false true e = refl
@@ -323,6 +335,16 @@ least_at {count} {f} {x} above is =
     never n = let z : ◌≡◌ {A = ℕ} 0 1 = cc (n, is) in omega arith
 
 -- ---- what the loop of `least_break` asks
+
+pub breakable_below : {count : ℕ} {queue via : List ℕ} {held share : List ℤ} (k : ℕ) → k ≤ count → Breakable count queue via held share → Breakable k queue via held share
+breakable_below k h known =
+    record {
+      count_most = omega (arith, known.count_most);
+      labels_in = λ j l. known.labels_in j (omega arith);
+      gaps_in = λ j s l. known.gaps_in j s (omega arith);
+      held_most = λ j l. known.held_most j (omega arith);
+      share_bound = λ j l. known.share_bound j (omega arith);
+    }
 
 -- the best of the positions below k; k is at most count, or 1 where count is 0
 pub record Best (count : ℕ) (f : ℕ → Option BreakingPoint) (best : Option BreakingPoint) (k : ℕ) : Type 0 where

@@ -4,7 +4,7 @@ use mathlib.Core.Path.{◌≡◌, sym, ◌∙◌, ap, ap₂}
 use native.Mathlib.Omega.{arith}
 use lib.IntN.{ℤ, pos, nat_abs, ◌+ℤ◌, ◌-ℤ◌, ◌*ℤ◌}
 use Rattle.exact.specs.declared.Fraction.{Fraction}
-use Rattle.std.specs.Prelude.{Option, Some}
+use Rattle.std.specs.Prelude.{Option, Some, None}
 use Rattle.std.specs.declared.cmp.Ordering.{Ordering}
 use Rattle.exact.specs.Divide.{InRange, order_of}
 use Rattle.algebra.proofs.Whole.{le_parts, parts_le, parts_lt, parts-+}
@@ -13,6 +13,7 @@ use Rattle.core_elimination.specs.declared.Sums.{Sums}
 use Rattle.core_elimination.specs.Block.{SumsInRange}
 use Rattle.core_elimination.proofs.Ranges.{Reads, same, word, plus, minus, times, total_word, wanted_total}
 use Rattle.core_breaking.specs.declared.BreakingPoint.{BreakingPoint}
+use Rattle.core_breaking.specs.declared.Outcome.TheVariants.{Reached}
 use Rattle.core_breaking.specs.declared.Side.{Side}
 use Rattle.core_breaking.specs.Breaking.{over, nearer_of}
 use Rattle.core_breaking.specs.Decide.{meeting_of, before_tight, against_tight, decided}
@@ -74,6 +75,9 @@ module _ (h : ℤ) (one two : Sums) (step : nat_abs h ≤ 20000) (in₁ : SumsIn
     tight_read_in_range = rw tight_read tight_in_range
 
 -- ---- the arms
+
+pub decides_none : (h : ℤ) (one two : Side) {first : Option BreakingPoint} → first ≡ nearer_of one.first two.first → first ≡ None → Reached ≡ decided h one two
+decides_none h one two near none = ap (against_tight h one.sums two.sums) (sym none ∙ near)
 
 pub decides_at : (h : ℤ) (one two : Side) {first : Option BreakingPoint} {x : BreakingPoint} {m : ℤ} {o : Ordering} (step : nat_abs h ≤ 20000) (in₁ : SumsInRange one.sums) (in₂ : SumsInRange two.sums)
     → first ≡ nearer_of one.first two.first → first ≡ Some x → m ≡ meeting_of (kept h) one.sums two.sums

@@ -1,18 +1,20 @@
 -- What the loops over a block share: a work array after k turns, each of which gives one label of the queue its
 -- entry.
 use mathlib.Core.Path.{◌≡◌, refl, sym, ◌∙◌, ap}
+use mathlib.Core.Bool.{Bool, cond}
 use mathlib.Core.List.{List}
 use Prim.Native.Nat.{ℕ, ◌+◌, ◌≤◌, ◌<◌}
 use native.Mathlib.Omega.{arith}
 use native.Mathlib.Decide.{dec_lt}
 use native.Mathlib.Numerals.{add-one}
+use borrow.Author.Tests.{eq-eqb, ne_eqb}
 use lib.ListN.{length, set, length-set}
 use lib.Seq.{get_or-set_same, get_or-set_other}
 use lib.IntN.{ℤ, pos, ◌+ℤ◌}
 use Rattle.algebra.specs.Sum.{sum}
 use Rattle.algebra.proofs.Sum.{sum_last}
 use Rattle.ground.specs.Entries.{nat, int}
-use Rattle.core_elimination.specs.Block.{Listed, Given}
+use Rattle.core_elimination.specs.Block.{Listed, Given, only_at}
 
 -- a sum of one term more, as a turn adds it
 pub sum_next : (f : ℕ → ℤ) (k : ℕ) {r : ℤ} → r ≡ sum k f +ℤ f k → r ≡ sum (k + 1) f
@@ -55,3 +57,10 @@ module _ {count : ℕ} {queue : List ℕ} {f : ℕ → ℤ} {before : List ℤ} 
   -- after the last turn
   pub fill_all : count ≤ k → Filled count queue f before k after → Given count queue f before after
   fill_all h s = let q : k ≡ count = omega arith in rw q at s.given
+
+-- what share_at gives a label, by its test
+pub only_here : (v : ℕ) (share : ℤ) (x : ℕ) → x ≡ v → share ≡ only_at v share x
+only_here v share x e = ap (λ (b : Bool). cond b share (pos 0)) (sym (eq-eqb x v e))
+
+pub only_elsewhere : (v : ℕ) (share : ℤ) (x : ℕ) → (x ≡ v → ⊥) → pos 0 ≡ only_at v share x
+only_elsewhere v share x d = ap (λ (b : Bool). cond b share (pos 0)) (sym (ne_eqb x v d))

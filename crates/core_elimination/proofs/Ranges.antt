@@ -86,6 +86,9 @@ module _ {count : ℕ} {queue : List ℕ} {off wanted weight : List ℤ} (r : In
   pub off_word : (k : ℕ) → k < count → Reads (kept (int off (nat queue k))) (int off (nat queue k)) 940000
   off_word k h = word (same _ (r.off_most k h)) (omega arith)
 
+  pub gap_small : (k : ℕ) → k < count → nat_abs (int wanted (nat queue k) -ℤ int off (nat queue k)) ≤ 1540000
+  gap_small k h = minus_most (int wanted (nat queue k)) (int off (nat queue k)) (r.wanted_bound k h) (r.off_most k h)
+
   pub moment_word : (k : ℕ) → k < count
       → Reads (kept (int weight (nat queue k)) *ℤ kept (kept (int wanted (nat queue k)) -ℤ kept (int off (nat queue k))))
       (int weight (nat queue k) *ℤ (int wanted (nat queue k) -ℤ int off (nat queue k))) 5544000000
@@ -109,6 +112,14 @@ module _ {count : ℕ} {queue : List ℕ} {off wanted weight : List ℤ} (r : In
       (wanted_sum k queue off wanted weight +ℤ int weight (nat queue k) *ℤ (int wanted (nat queue k) -ℤ int off (nat queue k))) 271656000000
   wanted_more k h l t e =
       plus {m = 266112000000} (record { is = e; most = omega (arith, wanted_sum-small k (omega arith)) }) (word (moment_word k h) (omega arith))
+
+  -- which fit
+  pub weight_sum-fits : (k : ℕ) → k < count → count ≤ 48 → SFits w64 (weight_sum k queue weight +ℤ int weight (nat queue k))
+  weight_sum-fits k h l = fits_small _ (omega (arith, (weight_more k h l _ refl).most))
+
+  pub wanted_sum-fits : (k : ℕ) → k < count → count ≤ 48
+      → SFits w64 (wanted_sum k queue off wanted weight +ℤ int weight (nat queue k) *ℤ (int wanted (nat queue k) -ℤ int off (nat queue k)))
+  wanted_sum-fits k h l = fits_small _ (omega (arith, (wanted_more k h l _ refl).most))
 
   above_zero : (k : ℕ) → k < count → pos 0 ≤ℤ int weight (nat queue k)
   above_zero k h = parts_le (omega (arith, le_parts (r.weight_low k h)))
@@ -157,6 +168,10 @@ sign_word {sign} e =
     (λ (p : sign ≡ pos 1). rw p (word (same (pos 1) (omega arith)) (omega arith)))
     (λ (p : sign ≡ negsuc 0). rw p (word (same (negsuc 0) (omega arith)) (omega arith)))
     e
+
+-- a sign changes no magnitude
+pub signed_small : (sign a : ℤ) {n : ℕ} → IsSign sign → nat_abs a ≤ n → nat_abs (sign *ℤ a) ≤ n
+signed_small sign a {n} e h = omega (arith, times_most sign a (sign_word e).most h)
 
 -- and what elimination starts from
 

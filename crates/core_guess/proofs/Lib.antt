@@ -1,3 +1,4 @@
+pub mod WholeDoubles
 pub mod Joining
 pub mod Wishing
 pub mod WrongGuesses

@@ -46,7 +46,7 @@ impl MaybeGap {
 }
 
 // The search for an order knows no places, and the search for the gap that lacks most changes none: so these are two.
-#[derive(Drop)]
+#[derive(Clone, Copy)]
 pub struct Links {
     // The block of a label; the next label of its block, in a circle; and how many labels a block has.
     pub block: [Block; ROOM],
@@ -63,7 +63,7 @@ pub struct Links {
     pub circle: [MaybeGap; GAP_ROOM],
 }
 
-#[derive(Drop)]
+#[derive(Clone, Copy)]
 pub struct Spots {
     // How far a label stands from the place of its block; the place of a block; and its weight.
     pub offset: [f64; ROOM],

@@ -34,9 +34,9 @@ use Rattle.core_balance.proofs.Placing.{den_limit}
 use Rattle.core_ring.specs.declared.Ring.{Ring as FoundRing}
 use Rattle.core_settle.specs.Settle.{RingStands}
 use Rattle.core_project.specs.Core.{Asked, CorePlaced}
-use Rattle.core_project.specs.Project.{FrontWritten, FractionsWritten, Buffers, Ready, Held, Solved, RingGiven}
+use Rattle.core_project.specs.Project.{FrontWritten, FractionsWritten, Buffers, Listed, Ready, Held, Solved, RingGiven}
 use Rattle.ground.proofs.Each.{each_map}
-use Rattle.core_project.proofs.Passes.{copied_out}
+use Rattle.core_project.proofs.Passes.{copied_by, copied_out}
 
 -- ---- plain facts
 
@@ -282,6 +282,25 @@ module _ {q r : Fraction} (h : Reduced q r) (least : pos 1 ≤ℤ q.den) where
   reduced_num C l = le_of_mul-le-mul_right {k = nat_abs q.den} (omega (arith, cross, mul-le-mul_right (nat_abs r.den) l)) q_above
 
 -- ---- the work arrays
+
+-- what copies of the lists to the front of the work arrays leave
+pub copied_all : {p work : Problem} (wants₀ weights₀ : List ℤ) (lefts₀ rights₀ : List ℕ) (distances₀ : List ℤ) (kinds₀ : List ℕ) → Listed p
+    → work.labels ≡ p.labels → work.gaps ≡ p.gaps
+    → work.wanted ≡ over p.labels p.wanted wants₀ → work.weight ≡ over p.labels p.weight weights₀
+    → work.left ≡ over p.gaps p.left lefts₀ → work.right ≡ over p.gaps p.right rights₀
+    → work.distance ≡ over p.gaps p.distance distances₀ → work.kind ≡ over p.gaps p.kind kinds₀
+    → Held p work
+copied_all {p} wants₀ weights₀ lefts₀ rights₀ distances₀ kinds₀ listed n m a b c d e f =
+    record {
+      labels = n;
+      gaps = m;
+      lefts = copied_by p.gaps p.left lefts₀ 0 c (omega (arith, listed.lefts)) refl;
+      rights = copied_by p.gaps p.right rights₀ 0 d (omega (arith, listed.rights)) refl;
+      distances = copied_by p.gaps p.distance distances₀ (pos 0) e (omega (arith, listed.distances)) refl;
+      kinds = copied_by p.gaps p.kind kinds₀ 0 f (omega (arith, listed.kinds)) refl;
+      wants = copied_by p.labels p.wanted wants₀ (pos 0) a (omega (arith, listed.wants)) refl;
+      weights = copied_by p.labels p.weight weights₀ (pos 0) b (omega (arith, listed.weights)) refl;
+    }
 
 module _ {p work : Problem} (lim : Limits p) (held : Held p work) where
   label_in : {i : ℕ} → i < work.labels → i < p.labels

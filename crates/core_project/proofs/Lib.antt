@@ -1,3 +1,4 @@
 pub mod Passes
 pub mod Finish
 pub mod Agreeing
+pub mod Bounds

@@ -27,6 +27,9 @@ module _ {A : Type 0} where
       get_or-append (take n from) (drop n to) none k (omega (arith, length-take-le n from h)) ∙ get_or-take n from k none l
 
   -- the same where an equation tells the list
+  pub copied_by : (n : ℕ) (from to : List A) {m : ℕ} {after : List A} (none : A) → after ≡ over n from to → n ≤ length from → m ≡ n → Copied m from after none
+  copied_by n from to none is h same = rw (is, same) (copied_in n from to none h)
+
   pub copied_out : (n : ℕ) (from to : List A) {after : List A} (none : A) → after ≡ over n from to → n ≤ length from → n ≤ length to → FrontWritten n from to after none
   copied_out n from to none is h g =
       rw is

@@ -7,7 +7,7 @@ ghost use Rattle.core_project.specs.Project.{FractionsWritten};
 
 use exact::Fraction;
 use exact::divide::{divisor, lowest_by};
-use exact::known::Divisor;
+use exact::known::{Divisor, no_divisor};
 
 // A fraction in lowest terms, by the divisor known, which is that of the fraction then. Most multipliers are zero, which takes no
 // division.
@@ -38,7 +38,7 @@ pub(crate) fn fractions_out(
         × ((k : ℕ) → k < count → pos 1 ≤ℤ int den.now k) }
     ensures { FractionsWritten count num.now den.now upper.old lower.old upper.new lower.new }
 {
-    let mut known = Divisor::NONE;
+    let mut known = no_divisor();
     for k in 0..count {
         let q = reduced(num[k], den[k], &mut known);
         upper[k] = q.num;

@@ -52,7 +52,7 @@ steps_map f g [] = refl
 steps_map f g (x ∷ l) = ap (λ (r : List Step). step_of (f x) (g x) ∷ r) (steps_map f g l)
 
 -- ---- the labels of the way that stand in the block
-module _ {p : Problem} {mark : List ℕ} {a b : ℕ} {at queue via up : List ℕ} {off : List ℤ} (bl : Blocked p mark a b at queue via up off) where
+module _ {p : Problem} {mark : List ℕ} {a b count : ℕ} {at queue via up : List ℕ} {off : List ℤ} (bl : Blocked p mark a b count at queue via up off) where
   abbrev pub on : ℕ → Bool
   on x = bl.on_way x && (ltb x p.labels && ltb 0 (nat at x))
 
@@ -69,10 +69,10 @@ module _ {p : Problem} {mark : List ℕ} {a b : ℕ} {at queue via up : List ℕ
   on_all x e l s = and_both e (and_both (lt-ltb x p.labels l) (lt-ltb 0 (nat at x) s))
 
   -- where such a label stands in the queue
-  queued : (x : ℕ) → on x ≡ true → (k : ℕ) × (k < bl.count) × (nat queue k ≡ x) × (nat at x ≡ suc k)
+  queued : (x : ℕ) → on x ≡ true → (k : ℕ) × (k < count) × (nat queue k ≡ x) × (nat at x ≡ suc k)
   queued x e = go (nat at x) refl
     where
-      go : (m : ℕ) → nat at x ≡ m → (k : ℕ) × (k < bl.count) × (nat queue k ≡ x) × (nat at x ≡ suc k)
+      go : (m : ℕ) → nat at x ≡ m → (k : ℕ) × (k < count) × (nat queue k ≡ x) × (nat at x ≡ suc k)
       go zero q = absurd (omega (arith, on_seen x e))
       go (suc k) q =
           let f = bl.tree.found x (on_label x e) k q in
@@ -87,7 +87,7 @@ module _ {p : Problem} {mark : List ℕ} {a b : ℕ} {at queue via up : List ℕ
   hangs : (x : ℕ) → on x ≡ true → x ≢ a → Hangs x
   hangs x e ne = subst Hangs q.2 at_queue
     where
-      q : (k : ℕ) × (k < bl.count) × (nat queue k ≡ x) × (nat at x ≡ suc k)
+      q : (k : ℕ) × (k < count) × (nat queue k ≡ x) × (nat at x ≡ suc k)
       q = queued x e
 
       later : (k : ℕ) → nat queue k ≡ x → 0 < k
@@ -252,7 +252,7 @@ tight_back : (N g l r : ℤ) → r ≡ l +ℤ N *ℤ g → N *ℤ neg_ℤ g ≡ 
 tight_back N g l r e = ring (N ∷ g ∷ l ∷ []) (search quotes depth 12) (search quotes depth 12) refl ∙ ap (λ z. l -ℤ z) (sym e)
 
 -- ---- the ring
-module _ {p : Problem} {mark : List ℕ} {a b : ℕ} {at queue via up : List ℕ} {off : List ℤ} (bl : Blocked p mark a b at queue via up off) where
+module _ {p : Problem} {mark : List ℕ} {a b count : ℕ} {at queue via up : List ℕ} {off : List ℤ} (bl : Blocked p mark a b count at queue via up off) where
   ends : (x : ℕ) → on bl x ≡ true → x ≢ a → Forth p via up x ⊎ Back p via up x
   ends x e ne =
       ⊎_elim

@@ -1,5 +1,5 @@
 -- Entries that are no gap's and no label's, from one part of an outer step to the next.
-use mathlib.Core.Path.{◌≡◌, ◌∙◌, ap}
+use mathlib.Core.Path.{◌≡◌, refl, ◌∙◌, ap}
 use Rattle.ground.specs.declared.problem.Problem.{Problem}
 use Rattle.ground.specs.Entries.{nat, int}
 use Rattle.core_forest.specs.Problem.{Limits, plain}
@@ -7,6 +7,9 @@ use Rattle.core_forest.specs.declared.state.State.{State}
 use Rattle.core_balance.specs.Hanging.{BeyondKept}
 use Rattle.core_settle.specs.Raise.{MarksChanged}
 use Rattle.core_settle.specs.Settle.{Outlying}
+
+pub outlying_none : {p : Problem} {s : State} → Outlying p s s
+outlying_none = record { marks = λ e h. refl; numbers = record { labels = λ i h. (refl, refl); gaps = λ e h. (refl, refl) } }
 
 pub outlying_then : {p : Problem} {s₀ s₁ s₂ : State} → Outlying p s₀ s₁ → Outlying p s₁ s₂ → Outlying p s₀ s₂
 outlying_then a b =

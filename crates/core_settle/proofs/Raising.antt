@@ -19,7 +19,7 @@ use Rattle.ground.specs.declared.problem.Problem.{Problem}
 use Rattle.core_forest.specs.declared.search.Work.{Work}
 use Rattle.core_forest.specs.declared.state.State.{State}
 use Rattle.core_balance.specs.Balance.{MarkChanged}
-use Rattle.core_balance.proofs.Remarking.{remarked_none, remarked_then, changed_remarked, untouched_then, changed_untouched}
+use Rattle.core_balance.proofs.Remarking.{remarked_none, remarked_then, changed_remarked, untouched_none, untouched_then, changed_untouched}
 use Rattle.core_advance.specs.declared.Push.{Push}
 use Rattle.core_forest.specs.Problem.{Limits, marks_of, numbers_of, IsForest}
 use Rattle.core_advance.specs.Advance.{PushedBy, GapDropped, GapReached, BlockedBy}
@@ -165,7 +165,7 @@ raised_ring c r d = record { forest = λ f _ num den s. r.forest f num den s; ra
 -- ---- what the turns change
 
 pub changed_none : {p : Problem} {s : State} → MarksChanged p s s
-changed_none = record { remarked = remarked_none; untouched = record { gap = λ e h. (refl, refl, refl); label = λ n l r i h. refl }; nums = refl }
+changed_none = record { remarked = remarked_none; untouched = untouched_none; nums = refl }
 
 pub changed_more : {p : Problem} {e to : ℕ} {s₀ s s' : State} → Limits p → e < p.gaps → MarksChanged p s₀ s → MarkChanged e to p s s' → MarksChanged p s₀ s'
 changed_more lim l m c =

@@ -1,23 +1,25 @@
 -- What the search for a gap that does not hold leans on: the size of a slack, what its sign says of the gap, and the search's turns.
 use mathlib.Core.Path.{◌≡◌, refl, subst, ◌∙◌, ap}
 use mathlib.Core.Logic.{◌⊎◌, inl, inr, ◌≢◌}
-use mathlib.Core.Bool.{Bool, true, false}
+use mathlib.Core.Bool.{Bool, true, false, cond}
 use mathlib.Core.List.{List, [], ◌∷◌}
 use Rattle.std.specs.Prelude.{Option, None, Some}
 use Prim.Native.Nat.{ℕ, zero, suc, ◌+◌, ◌*◌, ◌≤◌, ◌<◌, ◌^◌}
 use native.Mathlib.Omega.{arith}
 use native.Mathlib.Nat.{mul-le-mul}
 use borrow.Author.Count.{below_more}
+use borrow.Author.Tests.{eq-eqb, ne_eqb}
+use lib.Dec.{eqb}
 use lib.IntN.{ℤ, pos, neg_ℤ, nat_abs, ◌+ℤ◌, ◌-ℤ◌, ◌*ℤ◌}
 use lib.Signed.{◌≤ℤ◌, ◌<ℤ◌, lt_z, quot_z}
 use mir.Syntax.{w64}
 use mir.Val.{SFits, of_z}
-use Rattle.algebra.proofs.Whole.{le_parts, parts_lt, le_antisym}
+use Rattle.algebra.proofs.Whole.{parts_nat_abs, le_parts, parts_le, parts_lt, le_antisym}
 use Rattle.algebra.proofs.Ring.{quotes, le_given, lt_given, eq_given, le_goal, lt_goal, eq_goal}
 use Rattle.algebra.proofs.Quotient.{kept, kept_as, fits_as, nat_abs-*, nat_abs-+, nat_abs-neg, lt_of_test, le_of_test, nat_abs-negated, division_asks}
 use Rattle.exact.specs.declared.Fraction.{Fraction}
 use Rattle.exact.specs.Fraction.{IsFraction, fraction_at, ◌⊖◌}
-use Rattle.exact.specs.Slack.{difference}
+use Rattle.exact.specs.Slack.{Measurable, difference}
 use Rattle.exact.proofs.Slacks.{difference_above, sign_least, sign_least_back, sign_none, sign_none_back, sign_below, sign_below_back, sign_above, sign_above_back}
 use Rattle.ground.specs.declared.GapNumber.{GapNumber}
 use Rattle.ground.specs.declared.problem.Problem.{Problem}
@@ -25,7 +27,8 @@ use Rattle.least_move.specs.Sheet.{exactly, ignored, kind_of}
 use Rattle.least_move.specs.Placement.{HoldsWith}
 use Rattle.ground.specs.Entries.{nat, int}
 use Rattle.core_worst_gap.specs.declared.Lacking.{Lacking}
-use Rattle.core_worst_gap.specs.WorstGap.{slack_at, GapHolds, Lacks, WorstOf, lacking, PlaceInRange, Comparable}
+use Rattle.core_worst_gap.specs.declared.Lead.{Lead}
+use Rattle.core_worst_gap.specs.WorstGap.{slack_at, GapHolds, Lacks, WorstOf, lacking, lead_of, PlaceInRange, Comparable}
 
 -- the slack of gap e as it is computed, over the product of the denominators
 abbrev pub apart_at : Problem → (num den : List ℤ) → ℕ → Fraction
@@ -82,12 +85,21 @@ module _ {num den : List ℤ} {a : ℕ} (in_a : PlaceInRange num den a) where
   place_above : IsFraction (fraction_at num den a)
   place_above = parts_lt (omega (arith, le_parts in_a.den_least))
 
+  pub measurable : {q : Fraction} → q ≡ fraction_at num den a → Measurable q
+  measurable is =
+      rw is
+      (record {
+        above = place_above;
+        den_most = parts_le (omega (arith, in_a.den_most, parts_nat_abs (int den a)));
+        num_most = omega (arith, in_a.num_most);
+      })
+
+pub distance_read : (h : ℤ) → nat_abs h ≤ 20000 → kept h ≡ h
+distance_read h most = kept_as refl (omega arith)
+
 module _ {num den : List ℤ} {a b : ℕ} (in_a : PlaceInRange num den a) (in_b : PlaceInRange num den b) (h : ℤ) (most : nat_abs h ≤ 20000) where
   abbrev apart : Fraction
   apart = difference (fraction_at num den a) (fraction_at num den b) h
-
-  kept_h : kept h ≡ h
-  kept_h = kept_as refl (omega arith)
 
   crossed_most : nat_abs (fraction_at num den b ⊖ fraction_at num den a).num ≤ 266112000000 * 172800 + 266112000000 * 172800
   crossed_most =
@@ -114,12 +126,12 @@ module _ {num den : List ℤ} {a b : ℕ} (in_a : PlaceInRange num den a) (in_b 
   -- a slack between the two places, over the distance as it is read back
   module _ {l r q : Fraction} (from : l ≡ fraction_at num den a) (to : r ≡ fraction_at num den b) (is : q ≡ difference l r (kept h)) where
     measured : q ≡ apart
-    measured = is ∙ (λ i. difference (from i) (to i) (kept_h i))
+    measured = is ∙ (λ i. difference (from i) (to i) (distance_read h most i))
 
-    slack_read : kept q.num ≡ apart.num
+    pub slack_read : kept q.num ≡ apart.num
     slack_read = kept_as (ap (λ (x : Fraction). x.num) measured) slack_most
 
-    turned_fits : SFits w64 (pos 0 -ℤ kept q.num)
+    pub turned_fits : SFits w64 (pos 0 -ℤ kept q.num)
     turned_fits = fits_as (ap (λ (z : ℤ). pos 0 -ℤ z) slack_read) (omega (arith, nat_abs-negated apart.num, slack_most))
 
     num_fits : SFits w64 q.num
@@ -128,8 +140,11 @@ module _ {num den : List ℤ} {a b : ℕ} (in_a : PlaceInRange num den a) (in_b 
     den_fits : SFits w64 q.den
     den_fits = fits_as (ap (λ (x : Fraction). x.den) measured) both_most
 
-    den_above : pos 0 <ℤ q.den
-    den_above = rw (ap (λ (x : Fraction). x.den) measured) apart_above
+    den_some : pos 0 <ℤ q.den
+    den_some = rw (ap (λ (x : Fraction). x.den) measured) apart_above
+
+    pub den_above : pos 0 <ℤ kept q.den
+    den_above = rw (kept_as (ap (λ (x : Fraction). x.den) measured) both_most) apart_above
 
 -- ---- kinds
 
@@ -163,6 +178,35 @@ module _ (p : Problem) (num den : List ℤ) where
   after_lacking e back None before lacks r (inr w) = absurd (w.1 refl)
   after_lacking e back (Some f) before lacks r (inr w) = rw w.0 (omega (arith, before.0), before.1)
 
+  -- one more gap that is ignored
+  pub ignored_next : (e : GapNumber) (lead : Option Lacking) → WorstOf p num den e.0 lead → 1 < nat p.kind e.0 → WorstOf p num den (e.0 + 1) lead
+  ignored_next e lead before h = after_held e.0 lead before (ignored_holds (nat p.kind e.0) _ h)
+
+-- the gaps up to k, of those in range
+pub comparable_first : {p : Problem} {num den : List ℤ} {k : ℕ} → k < p.gaps → Comparable p num den
+    → Comparable (record { labels = p.labels; gaps = k + 1; left = p.left; right = p.right; distance = p.distance; kind = p.kind; wanted = p.wanted; weight = p.weight }) num den
+comparable_first h c =
+    record {
+      gaps_bound = omega (arith, c.gaps_bound);
+      left_placed = λ e l. c.left_placed e (omega arith);
+      right_placed = λ e l. c.right_placed e (omega arith);
+      distance_bound = λ e l. c.distance_bound e (omega arith);
+    }
+
+-- ---- the lead, by its tag
+
+pub lead_new : (tag : ℕ) (e : GapNumber) → tag ≢ 0 → cond (eqb tag 0) None (Some (lacking e (eqb tag 2))) ≡ Some (lacking e (eqb tag 2))
+lead_new tag e d = ap (λ t. cond t None (Some (lacking e (eqb tag 2)))) (ne_eqb tag 0 d)
+
+pub lead_none : (l : Lead) → l.tag ≡ 0 → lead_of l ≡ None
+lead_none l q = ap (λ t. cond t None (Some (lacking l.gap (eqb l.tag 2)))) (eq-eqb l.tag 0 q)
+
+pub lead_some : (l : Lead) → l.tag ≢ 0 → lead_of l ≡ Some (lacking l.gap (eqb l.tag 2))
+lead_some l d = lead_new l.tag l.gap d
+
+pub lead_there : (l : Lead) → l.tag ≢ 0 → lead_of l ≢ None
+lead_there l d e = let z : ◌≡◌ {A = ℕ} 0 1 = cc (lead_some l d, e) in omega arith
+
 -- gap e's places l and r as they are read, and the slack q between them
 module _ {p : Problem} {num den : List ℤ} (e : GapNumber) (within : e.0 < p.gaps) (c : Comparable p num den) {l r q : Fraction}
     (from : l ≡ fraction_at num den (nat p.left e.0)) (to : r ≡ fraction_at num den (nat p.right e.0)) (is : q ≡ difference l r (kept (int p.distance e.0))) where
@@ -180,13 +224,13 @@ module _ {p : Problem} {num den : List ℤ} (e : GapNumber) (within : e.0 < p.ga
   slack_divides =
       let d = int p.distance e.0 in
       let h = c.distance_bound e.0 within in
-      division_asks (num_fits at_left at_right d h from to is) (den_fits at_left at_right d h from to is) (den_above at_left at_right d h from to is)
+      division_asks (num_fits at_left at_right d h from to is) (den_fits at_left at_right d h from to is) (den_some at_left at_right d h from to is)
 
   pub turned_divides : (0 < of_z w64 q.den) × SFits w64 (quot_z (kept (pos 0 -ℤ kept q.num)) (kept q.den))
   turned_divides =
       let d = int p.distance e.0 in
       let h = c.distance_bound e.0 within in
-      division_asks slack_turns (den_fits at_left at_right d h from to is) (den_above at_left at_right d h from to is)
+      division_asks slack_turns (den_fits at_left at_right d h from to is) (den_some at_left at_right d h from to is)
 
   abbrev apart_e : Fraction
   apart_e = apart_at p num den e.0

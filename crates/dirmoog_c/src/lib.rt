@@ -13,8 +13,8 @@ use ground::answers::{number_of, place_of, ring_of};
 use ground::lists::Lists;
 use layout::lists::lay_out;
 use single_fractions::Ties;
-use single_fractions::round::round;
-use single_fractions::slack::slack;
+use single_fractions::round::{round, whole_of};
+use single_fractions::slack::{slack, slack_given};
 
 pub mod text;
 
@@ -72,7 +72,7 @@ fn round_told(ties: Ties, num: i64, den: i64, out: &mut [i64]) -> usize
     ensures { RoundTold (rounded ties num den) out.old result out.new }
 {
     let answer = round(ties, num, den);
-    put(out, 0, answer.unwrap_or(0));
+    put(out, 0, whole_of(answer));
     number_of(answer)
 }
 
@@ -117,7 +117,7 @@ pub extern "C" fn dirmoog_slack(
         den: right_den,
     };
     let answer = slack(left, right, distance);
-    let given = answer.unwrap_or(Fraction { num: 0, den: 1 });
+    let given = slack_given(answer);
     put(out, 0, given.num);
     put(out, 1, given.den);
     number_of(answer)

@@ -1,5 +1,6 @@
 -- Divisors: Euclid's step, Gauss's lemma, and fractions in lowest terms, which are unique.
 use mathlib.Core.Path.{◌≡◌, refl, sym, ◌∙◌, ap}
+use mathlib.Core.Logic.{◌⊎◌, inl, inr}
 use mathlib.Core.Bool.{Bool, true, false}
 use mathlib.Core.List.{[], ◌∷◌}
 use Prim.Native.Nat.{ℕ, zero, suc, ◌+◌, ◌-◌, ◌*◌, ◌/◌, ◌%◌, min, ◌≤◌, ◌<◌, ◌∣◌}
@@ -10,6 +11,7 @@ use borrow.Author.Tests.{ltb-true, ltb-false}
 use lib.IntN.{ℤ, pos, nat_abs, ◌*ℤ◌, *ℤ_comm, *ℤ-zero}
 use lib.Signed.{◌<ℤ◌, rem_z}
 use Rattle.exact.specs.declared.Fraction.{Fraction}
+use Rattle.exact.specs.declared.known.TheConstants.Divisor.{NONE}
 use Rattle.exact.specs.Fraction.{◌≃◌, LowestTerms, Reduced}
 use Rattle.exact.specs.Divide.{no_divisor, GreatestCommonDivisor, IsDivisor}
 use Rattle.algebra.proofs.Whole.{parts_lt, *ℤ-cancel, *ℤ-lt_cancel}
@@ -36,16 +38,16 @@ gcd_part {y} {a} {b} {g} e c =
       greatest = λ k p q. c.greatest k p ((dvd-add_iff_right k q).1 (rw e p));
     }
 
+pub gcd_either : {x y r g : ℕ} → x % y ≤ y → (r ≡ x % y) ⊎ (r ≡ y - x % y) → GreatestCommonDivisor y r g → GreatestCommonDivisor x y g
+gcd_either h (inl e) c = gcd_step (rw e at c)
+gcd_either {x} {y} h (inr e) c = gcd_step (gcd_part {b = y - x % y} (omega arith) (rw e at c))
+
 pub gcd_nearer : {x y r g : ℕ} → x % y ≤ y → r ≡ min (x % y) (y - x % y) → GreatestCommonDivisor y r g → GreatestCommonDivisor x y g
-gcd_nearer {x} {y} {r} {g} h e c = go (ltb (y - x % y) (x % y)) refl
+gcd_nearer {x} {y} {r} h e = gcd_either h (go (ltb (y - x % y) (x % y)) refl)
   where
-    go : (t : Bool) → ltb (y - x % y) (x % y) ≡ t → GreatestCommonDivisor x y g
-    go true k =
-        let is : r ≡ y - x % y = omega (arith, ltb-true (y - x % y) (x % y) k) in
-        gcd_step (gcd_part {b = y - x % y} (omega arith) (rw is at c))
-    go false k =
-        let is : r ≡ x % y = omega (arith, ltb-false (y - x % y) (x % y) k) in
-        gcd_step (rw is at c)
+    go : (t : Bool) → ltb (y - x % y) (x % y) ≡ t → (r ≡ x % y) ⊎ (r ≡ y - x % y)
+    go true k = inr (omega (arith, ltb-true (y - x % y) (x % y) k))
+    go false k = inl (omega (arith, ltb-false (y - x % y) (x % y) k))
 
 gcd_unstep : {x y g : ℕ} → GreatestCommonDivisor x y g → GreatestCommonDivisor y (x % y) g
 gcd_unstep {x} {y} {g} c =
@@ -101,6 +103,10 @@ is_divisor {den} {rest} {a} {b} {g} h ea eb c =
 -- that of 0/1, where none is known
 pub none_divides : IsDivisor no_divisor
 none_divides = is_divisor (record { lt = tt }) refl refl (gcd_end 1)
+
+-- the constant is that one
+pub none_is : NONE ≡ no_divisor
+none_is = refl
 
 -- it divides the numerator too
 pub gcd_rem : (z d : ℤ) {g : ℕ} → GreatestCommonDivisor (nat_abs (rem_z z d)) (nat_abs d) g → GreatestCommonDivisor (nat_abs z) (nat_abs d) g

@@ -7,9 +7,9 @@ use native.Mathlib.Nat.{mul-le-mul}
 use lib.IntN.{ℤ, nat_abs, ◌+ℤ◌, ◌*ℤ◌}
 use lib.Signed.{◌≤ℤ◌, ◌<ℤ◌, quot_z, rem_z}
 use mir.Syntax.{w64}
-use mir.Val.{SFits}
+use mir.Val.{SFits, of_z}
 use mir.ValLaws.{to_z-of_z}
-use Rattle.ground.specs.Limits.{fraction_den_most}
+use Rattle.ground.specs.Limits.{fraction_den_most, fraction_num_most}
 use Rattle.exact.specs.declared.Fraction.{Fraction}
 use Rattle.std.specs.declared.cmp.Ordering.TheVariants.{Less, Equal, Greater}
 use Rattle.std.specs.Ordering.{int_cmp}
@@ -82,6 +82,9 @@ module _ (q : Fraction) (ok : InRange q) where
   pub den_small : nat_abs q.den ≤ fraction_den_most
   den_small = omega (arith, above_nat_abs ok.above, le_parts ok.den_most)
 
+  pub quot_small : nat_abs (quot_z q.num q.den) ≤ fraction_num_most
+  quot_small = omega (arith, ok.num_most, quot_most q.num q.den)
+
   pub rem_small : nat_abs (rem_z q.num q.den) < fraction_den_most
   rem_small = omega (arith, den_small, rem_most q.num ok.above)
 
@@ -97,7 +100,10 @@ module _ (q : Fraction) (ok : InRange q) where
   pub den_kept : kept q.den ≡ q.den
   den_kept = to_z-of_z w64 q.den den_fits
 
-  -- what a division and a remainder give
+  -- what a division and a remainder ask, and what they give
+  pub division_asks : (0 < of_z w64 q.den) × SFits w64 (quot_z (kept q.num) (kept q.den))
+  division_asks = quotient.division_asks num_fits den_fits ok.above
+
   pub quot_plain : quot_z (kept q.num) (kept q.den) ≡ quot_z q.num q.den
   quot_plain = quotient.quot_read num_fits den_fits ok.above
 

@@ -213,6 +213,9 @@ module _ (p q : Fraction) (mp : Measurable p) (mq : Measurable q) where
   cross_plain : kept p.num *ℤ kept q.den ≡ p.num *ℤ q.den
   cross_plain = ap₂ ◌*ℤ◌ (num_kept p mp) (den_kept q mq)
 
+  pub cross_asks : SFits w64 (kept p.num *ℤ kept q.den)
+  cross_asks = fits_as cross_plain (omega (arith, cross_most))
+
   cross_kept : kept (kept p.num *ℤ kept q.den) ≡ p.num *ℤ q.den
   cross_kept = kept_as cross_plain (omega (arith, cross_most))
 
@@ -221,6 +224,9 @@ module _ (p q : Fraction) (mp : Measurable p) (mq : Measurable q) where
 
   both_plain : kept p.den *ℤ kept q.den ≡ p.den *ℤ q.den
   both_plain = ap₂ ◌*ℤ◌ (den_kept p mp) (den_kept q mq)
+
+  pub both_asks : SFits w64 (kept p.den *ℤ kept q.den)
+  both_asks = fits_as both_plain (omega (arith, both_most))
 
   both_kept : kept (kept p.den *ℤ kept q.den) ≡ p.den *ℤ q.den
   both_kept = kept_as both_plain (omega (arith, both_most))

@@ -5,7 +5,7 @@ ghost use Rattle.exact.specs.Fraction.{Reduced};
 ghost use Rattle.exact.specs.Divide.{GreatestCommonDivisor, IsDivisor};
 
 use crate::Fraction;
-use crate::known::Divisor;
+use crate::known::{Divisor, no_divisor};
 
 // The greatest common divisor, by Euclid's remainders.
 // Each is taken to the nearer multiple, so that y at least halves at every turn.
@@ -59,5 +59,5 @@ pub fn lowest(num: i64, den: i64) -> Fraction
     requires { pos 0 <ℤ den }
     ensures { Reduced (record { num = num; den = den }) result }
 {
-    lowest_by(num, den, divisor(num, den, Divisor::NONE))
+    lowest_by(num, den, divisor(num, den, no_divisor()))
 }

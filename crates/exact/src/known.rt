@@ -1,4 +1,6 @@
 // The divisor that is known from one fraction to the next.
+ghost use Rattle.std.specs.Prelude.{◌≡◌};
+ghost use Rattle.exact.specs.Divide.{no_divisor};
 
 // A denominator, the remainder of a numerator by it, and their greatest common divisor.
 #[derive(Clone, Copy, Debug, PartialEq, Eq)]
@@ -15,4 +17,11 @@ impl Divisor {
         rest: 0,
         common: 1,
     };
+}
+
+// The same from a call, since the contract of a function can say what it is.
+pub fn no_divisor() -> Divisor
+    ensures { result ≡ no_divisor }
+{
+    Divisor::NONE
 }

@@ -12,8 +12,8 @@ use exact::compare::compare;
 use exact::divide::{gcd, lowest};
 use ground::answers::{number_of, place_of};
 use ground::limits::{FRACTION_DEN_MOST, FRACTION_NUM_MOST};
-use single_fractions::round::round;
-use single_fractions::slack::slack;
+use single_fractions::round::{round, whole_of};
+use single_fractions::slack::{slack, slack_given};
 use single_fractions::{Rounded, Ties};
 use std::cmp::Ordering;
 use std::io;
@@ -57,7 +57,7 @@ fn show_compare(rt: &impl Print, (a, b): (i64, i64), (c, d): (i64, i64)) -> io::
 }
 
 fn print_rounded(rt: &impl Print, answer: Rounded) -> io::Result<()> {
-    let whole = answer.unwrap_or(0);
+    let whole = whole_of(answer);
     let number = number_of(answer);
     let place = place_of(answer);
     println!(rt; " = {whole} number {number} place {place}")
@@ -90,7 +90,7 @@ fn show_slack(
         Fraction { num: c, den: d },
         distance,
     );
-    let q = answer.unwrap_or(Fraction { num: 0, den: 1 });
+    let q = slack_given(answer);
     let number = number_of(answer);
     let place = place_of(answer);
     println!(rt;

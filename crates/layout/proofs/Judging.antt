@@ -223,6 +223,10 @@ module _ (l : Lists) (w : Written) (passes : table (sheet_now l) w ≡ pass) whe
         let told = ring_refused says in
         subst (λ (x : Answer). Judged (sheet_of sheet) w x (written_of after)) (sym e) (inr (refl, told.0, told.1))
 
+-- the answer to a ring
+pub ring_answered : (found : Result (Unit {0}) RingSize) (size : RingSize) → found ≡ Err size → refusal 9 0 size.0 ≡ answer_of found
+ring_answered found size e = sym (ap answer_of e)
+
 -- ---- the promise
 
 pub refused_kept : {r : Read} {w : Written} {q : Refusal} {a : Answer} → Err q ≡ table r w → a ≡ Err q → Promise r w a w

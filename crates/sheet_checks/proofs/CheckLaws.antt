@@ -2,21 +2,24 @@
 use Prim.Native.Nat.{ℕ, zero, suc, ◌<◌}
 use mathlib.Core.Path.{◌≡◌, refl, sym, ◌∙◌, ap}
 use mathlib.Core.Bool.{Bool, true, false, cond}
-use mathlib.Core.List.{List, [], ◌∷◌}
+use mathlib.Core.List.{List, [], ◌∷◌, ◌++◌, map}
 use native.Mathlib.Omega.{arith}
 use lib.Dec.{ltb}
 use lib.ListN.{length, get_or}
 use lib.IntN.{pos, neg_ℤ}
 use borrow.Author.Tests.{ltb-true, ltb-false}
-use Rattle.std.specs.Prelude.{Some, None, position, zip}
+use Rattle.std.specs.Prelude.{Some, None, Ok, Err, position, zip}
 use Rattle.std.specs.List.{position_or_len}
 use Rattle.std.proofs.lemmas.List.Sums.{fails_before_first, passes_at_first}
 use Rattle.ground.specs.Limits.{distance_most, wanted_most, weight_least, weight_most}
 use Rattle.ground.specs.declared.lists.Lists.{Lists}
-use Rattle.sheet_checks.specs.Lent.{sheet_now}
-use Rattle.sheet_checks.specs.Refusals.{pass, first_refusal, test, refuse, offender_below, offender, outside, unequal, unknown}
-use Rattle.sheet_checks.specs.Refusals.{ragged, neither, off_plate, bad_weight, stranger, bad_gap, bad_kind}
-use Rattle.sheet_checks.specs.Checks.{Even, told}
+use Rattle.ground.specs.declared.Refusal.{Refusal}
+use Rattle.ground.specs.Answers.{Answer}
+use Rattle.sheet_checks.specs.declared.check.Room.{Room}
+use Rattle.sheet_checks.specs.Lent.{Read, gap_count, label_count, sheet_now}
+use Rattle.sheet_checks.specs.Refusals.{Row, pass, first_refusal, in_turn, test, refuse, offender_below, offender, size_tests, table_of, outside, unequal, unknown}
+use Rattle.sheet_checks.specs.Refusals.{ragged, short, neither, off_plate, bad_weight, stranger, bad_gap, bad_kind, rows, table_for}
+use Rattle.sheet_checks.specs.Checks.{Even, contents_of, told}
 use Rattle.sheet_checks.proofs.Passed.{offender_same, or_clear, same_of_not, test_pass}
 
 -- ---- the first offender of a row
@@ -40,6 +43,13 @@ module _ (number : ℕ) (bad : ℕ → Bool) where
       at false t before =
           let same : n ≡ k = omega (arith, ltb-false k n t) in
           rw (same, e, sym (none_below k clear))
+
+-- of a row: none is bad, and the first that is
+pub none_bad : (row : Row) → ((j : ℕ) → j < row.count → row.bad j ≡ false) → pass ≡ offender row
+none_bad row = none_below row.number row.bad row.count
+
+pub first_bad : (row : Row) (k : ℕ) → k < row.count → ((j : ℕ) → j < k → row.bad j ≡ false) → row.bad k ≡ true → refuse row.number k ≡ offender row
+first_bad row k = first_below row.number row.bad k row.count
 
 -- what a search finds is the first of a row's offenders
 module _ {A : Type 0} (number : ℕ) (bad : A → Bool) (list : List A) (none : A) where
@@ -68,6 +78,38 @@ pairs_entry [] (y ∷ ys) k e = absurd (omega arith)
 pairs_entry (x ∷ xs) [] k e = absurd (omega arith)
 pairs_entry (x ∷ xs) (y ∷ ys) zero e = refl
 pairs_entry (x ∷ xs) (y ∷ ys) (suc k) e = pairs_entry xs ys k (omega arith)
+
+-- ---- one check after another
+
+-- a refusal ends the checks
+pub ends : {r c : Answer} {q : Refusal} (later : Answer) → r ≡ Err q → r ≡ c → r ≡ first_refusal c later
+ends later e f = e ∙ ap (λ (x : Answer). first_refusal x later) (sym e ∙ f)
+
+-- a pass goes on to the later ones
+pub goes_on : {r c d : Answer} (later : Answer) → r ≡ pass → r ≡ c → d ≡ later → d ≡ first_refusal c later
+goes_on later e f g = g ∙ ap (λ (x : Answer). first_refusal x later) (sym e ∙ f)
+
+-- the last
+pub alone : (c : Answer) → c ≡ first_refusal c pass
+alone (Ok _) = refl
+alone (Err q) = refl
+
+first_of_first : (a b c : Answer) → first_refusal a (first_refusal b c) ≡ first_refusal (first_refusal a b) c
+first_of_first (Ok _) b c = refl
+first_of_first (Err q) b c = refl
+
+-- some checks, and then others
+turns : (cs ds : List Answer) → in_turn (cs ++ ds) ≡ first_refusal (in_turn cs) (in_turn ds)
+turns [] ds = refl
+turns (c ∷ cs) ds = ap (first_refusal c) (turns cs ds) ∙ first_of_first c (in_turn cs) (in_turn ds)
+
+-- the table is the sizes' checks, and then the contents'
+pub table_parts : (r : Read) (room : Room)
+    → first_refusal (in_turn (size_tests (label_count r) (gap_count r) (ragged r room.carried) (short (label_count r) (gap_count r) room))) (contents_of r)
+    ≡ table_for r room
+unfolding table_of
+table_parts r room =
+    sym (turns (size_tests (label_count r) (gap_count r) (ragged r room.carried) (short (label_count r) (gap_count r) room)) (map offender (rows r)))
 
 -- ---- the checks of a sheet
 

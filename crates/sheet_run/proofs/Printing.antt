@@ -8,6 +8,7 @@ use lib.Seq.{take_at, drop_at}
 use borrow.Author.Tests.{le-leb, le-ltb, eq-eqb}
 use Rattle.std.specs.Prelude.{Ok, Err}
 use Rattle.std.specs.Result.{result_unwrap_or}
+use Rattle.ground.specs.declared.Refusal.{Refusal}
 use Rattle.ground.specs.Answers.{Answer}
 use Rattle.ground.specs.Limits.{gaps_most, labels_most}
 use Rattle.text_listing.specs.Listing.{Listable, Listing, Within, gaps_in, labels_in, listed_in, listing, listing_room}
@@ -30,6 +31,9 @@ module _ (a : Answer) (field : ℕ) (l : Listable) (b : List ℕ) (within : With
             le-leb _ _ h,
           )
       go (Err r) h = rw (le-leb _ _ h)
+
+  pub never_refused : {r : Refusal} → Err r ≡ (listed_in a field l b).answer → ⊥
+  never_refused e = let k = e ∙ ap (λ (d : Listing). d.answer) whole in cc
 
   pub printed : (n : ℕ) (after : List ℕ) → length b ≡ listing_room → n ≡ result_unwrap_or (listed_in a field l b).answer 0 → after ≡ (listed_in a field l b).buffer
       → Printed (listing a field l) b n after

@@ -1,5 +1,5 @@
 -- The rounding with halves to the larger number: of every fraction not refused the nearest whole number, of two as near the
--- larger; and the code's numbers in 64 bits.
+-- larger; and the code's division.
 use mathlib.Core.Path.{◌≡◌, refl, sym, ◌∙◌, ap}
 use Prim.Native.Nat.{ℕ}
 use lib.IntN.{ℤ, pos, negsuc, nat_abs, ◌+ℤ◌, ◌*ℤ◌}
@@ -34,3 +34,7 @@ unfolding round_half_up
 half_up_is num den d e =
     floor_is (pos 2 *ℤ num +ℤ den) d
     ∙ ap (floor_of (pos 2 *ℤ num +ℤ den)) (ap nat_abs (sym e) ∙ nat_abs-* (pos 2) den)
+
+pub floor_half_up : (num den : ℤ) → floor_of (pos 2 *ℤ num +ℤ den) (nat_abs (pos 2 *ℤ den)) ≡ round_half_up num den
+unfolding round_half_up
+floor_half_up num den = ap (floor_of (pos 2 *ℤ num +ℤ den)) (nat_abs-* (pos 2) den)

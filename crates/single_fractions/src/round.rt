@@ -3,7 +3,7 @@ ghost use Rattle.std.specs.Prelude.{◌≡◌, pos, ◌≤ℤ◌};
 ghost use Rattle.exact.specs.Divide.{InRange};
 ghost use Rattle.single_fractions.specs.RoundingCases.{AgainstHalf};
 ghost use Rattle.exact.specs.Nearest.{round_ties_to_away};
-ghost use Rattle.single_fractions.specs.Round.{rounded};
+ghost use Rattle.single_fractions.specs.Round.{rounded, whole_of};
 
 use crate::half_up::half_up;
 use crate::places::within_places;
@@ -11,6 +11,13 @@ use crate::{Rounded, Ties};
 use ground::Refusal;
 use ground::rules::Rule;
 use std::cmp::Ordering;
+
+// The whole number given, which is 0 for a refusal.
+pub fn whole_of(answer: Rounded) -> i64
+    ensures { result ≡ whole_of answer }
+{
+    answer.unwrap_or(0)
+}
 
 // How the remainder of a magnitude by den stands to half of den: under, at or over it.
 fn against_half(magnitude: i64, den: i64) -> Ordering

@@ -15,13 +15,13 @@ use ground::limits::{GAPS, LABELS};
 use ground::rules::Rule;
 use ground::{Answer, Label, Refusal};
 use single_fractions::Ties;
-use single_fractions::round::round;
+use single_fractions::round::{round, whole_of};
 
 // The whole unit of a fraction, halves to the larger number; 0 for one that rounding refuses.
 fn whole_unit(num: i64, den: i64) -> i64
     ensures { result ≡ unit_of num den }
 {
-    round(Ties::Up, num, den).unwrap_or(0)
+    whole_of(round(Ties::Up, num, den))
 }
 
 // Puts the record of a label.

@@ -9,18 +9,17 @@ use crate::lent::Lent;
 use crate::text::Text;
 use exact::Fraction;
 use ground::GapNumber;
-use single_fractions::slack::slack;
+use single_fractions::slack::{slack, slack_given};
 
 // The slack that is printed for a gap: 0/1 where an end is no label, and for one that the entry refuses.
 fn printed_slack(e: GapNumber, lent: Lent) -> Fraction
     requires { Within (listable_of lent) × (e.0 < gaps_in (listable_of lent)) }
     ensures { result ≡ printed_slack (listable_of lent.entry) e.0 }
 {
-    let none = Fraction { num: 0, den: 1 };
     let u = lent.left[e.0];
     let v = lent.right[e.0];
     if lent.place_num.len() <= u || lent.place_num.len() <= v {
-        return none;
+        return Fraction { num: 0, den: 1 };
     }
     let from = Fraction {
         num: lent.place_num[u],
@@ -30,7 +29,7 @@ fn printed_slack(e: GapNumber, lent: Lent) -> Fraction
         num: lent.place_num[v],
         den: lent.place_den[v],
     };
-    slack(from, to, lent.distance[e.0]).unwrap_or(none)
+    slack_given(slack(from, to, lent.distance[e.0]))
 }
 
 // Puts the record of a gap.

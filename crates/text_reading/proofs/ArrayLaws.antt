@@ -92,3 +92,14 @@ held_stored t w (Gap g) h =
 pub counted_add : (t : Typed) (row : Row) → counted_with row (counts_of t) ≡ counts_of (add t row)
 counted_add t (Label r) = rw length-append
 counted_add t (Gap g) = rw length-append
+
+-- work arrays that hold something have their sizes
+pub sizes_held : (t : Typed) (w : Lists) → Held t w → WorkArrays w
+sizes_held t w h = record {
+  wanted = h.wanted.size;
+  weight = h.weight.size;
+  left = h.left.size;
+  right = h.right.size;
+  distance = h.distance.size;
+  kind = h.kind.size;
+}

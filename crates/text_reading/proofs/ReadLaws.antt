@@ -5,7 +5,7 @@ use native.Mathlib.Numerals.{add-one}
 use mathlib.Core.Path.{◌≡◌, refl, sym, ap, subst, ◌∙◌}
 use mathlib.Core.Bool.{Bool, true, false, cond, ◌&&◌}
 use mathlib.Core.List.{List, [], map}
-use borrow.Author.Tests.{lt-ltb, le-ltb, ltb-false}
+use borrow.Author.Tests.{lt-ltb, le-ltb, le-leb, ltb-false, leb-true}
 use Rattle.std.proofs.lemmas.Bool.Decides.{nat_tests}
 use lib.Dec.{ltb, leb}
 use lib.ListN.{length, take, drop, drop_of_length-le, length-map}
@@ -24,10 +24,10 @@ use Rattle.text_reading.specs.Texts.{text_most, Lists, counts_of, front, filled,
 use Rattle.text_rows.specs.LineAt.{LineAt}
 use Rattle.text_reading.specs.Parts.{Stored, counted_with, stored_in, Holds, WorkArrays, Held, ScannedBy}
 use Rattle.text_reading.specs.Readings.{Reading, unread}
-use Rattle.text_reading.specs.Parts.{judged_by, room_of, ReadInto}
+use Rattle.text_reading.specs.Parts.{Fitting, judged_by, room_of, ReadInto}
 use Rattle.ground.specs.Entries.{over}
 use Rattle.ground.specs.Limits.{gaps_most, labels_most}
-use Rattle.text_reading.proofs.ArrayLaws.{over_front, held_none, held_stored, counted_add}
+use Rattle.text_reading.proofs.ArrayLaws.{over_front, held_none, held_stored, counted_add, sizes_held}
 
 -- what holds where a line begins: the records read so far, and that the rest decides the outcome
 pub record Reached (text : List ℕ) (from : Cursor) (c : Counts) (w : Lists) : Type 0 where
@@ -223,3 +223,55 @@ module _ (text : List ℕ) (w b : Lists) (h : length text ≤ text_most) where
 
     pub read_sheet : (after : Lists) → Ok tt ≡ judged_by c room → after ≡ over_all c w b → ReadInto text b (Ok c) after
     read_sheet after j o = rw o (told (Ok tt) j)
+
+-- the work arrays of a text without a bad line keep their sizes
+pub scanned_sizes : (o : Outcome) (w : Lists) (c : Counts) → ScannedBy o (Ok c) w → WorkArrays w
+scanned_sizes (bad_line n number field) w c s = absurd (cc)
+scanned_sizes (sheet t) w c s = sizes_held t w s.1
+
+-- two tests that hold
+both_true : (p q : Bool) → (p && q) ≡ true → (p ≡ true) × (q ≡ true)
+both_true true q e = (refl, e)
+both_true false q e = absurd (cc)
+
+module _ (c room : Counts) where
+  roomy_fitting : c.labels ≤ labels_most → c.gaps ≤ gaps_most → (leb c.labels room.labels && leb c.gaps room.gaps) ≡ true → Fitting c room
+  roomy_fitting labels gaps e =
+      let parts = both_true (leb c.labels room.labels) (leb c.gaps room.gaps) e in
+      record { labels = labels; gaps = gaps; label_room = leb-true _ _ parts.0; gap_room = leb-true _ _ parts.1 }
+
+  -- counts are taken only if they pass 1, 2 and 4
+  pub fitting : Ok tt ≡ judged_by c room → Fitting c room
+  unfolding judged_by
+  fitting = split (ltb labels_most c.labels) refl (ltb gaps_most c.gaps) refl (leb c.labels room.labels && leb c.gaps room.gaps) refl
+    where
+      split : (p : Bool) → ltb labels_most c.labels ≡ p → (q : Bool) → ltb gaps_most c.gaps ≡ q
+          → (r : Bool) → (leb c.labels room.labels && leb c.gaps room.gaps) ≡ r
+          → ◌≡◌ {A = Result (Unit {0}) Unread} (Ok tt) (cond p (Err (unread 1 0 no_field)) (cond q (Err (unread 2 0 no_field)) (cond r (Ok tt) (Err (unread 4 0 no_field)))))
+          → Fitting c room
+      split true e q g r f h = absurd (cc)
+      split false e true g r f h = absurd (cc)
+      split false e false g false f h = absurd (cc)
+      split false e false g true f h = roomy_fitting (ltb-false labels_most _ e) (ltb-false gaps_most _ g) f
+
+  -- they are if they do
+  pub fitting_judged : Fitting c room → Ok tt ≡ judged_by c room
+  unfolding judged_by
+  fitting_judged f =
+      rw (
+        le-ltb labels_most c.labels f.labels,
+        le-ltb gaps_most c.gaps f.gaps,
+        le-leb c.labels room.labels f.label_room,
+        le-leb c.gaps room.gaps f.gap_room,
+      )
+
+  -- 4 where 1 and 2 are passed and a list is too short, whichever it is
+  pub short_judged : c.labels ≤ labels_most → c.gaps ≤ gaps_most → (Fitting c room → ⊥) → Err (unread 4 0 no_field) ≡ judged_by c room
+  unfolding judged_by
+  short_judged labels gaps lacks =
+      rw (le-ltb labels_most c.labels labels, le-ltb gaps_most c.gaps gaps) (go (leb c.labels room.labels && leb c.gaps room.gaps) refl)
+    where
+      go : (t : Bool) → (leb c.labels room.labels && leb c.gaps room.gaps) ≡ t
+          → ◌≡◌ {A = Result (Unit {0}) Unread} (Err (unread 4 0 no_field)) (cond t (Ok tt) (Err (unread 4 0 no_field)))
+      go true e = absurd (lacks (roomy_fitting labels gaps e))
+      go false e = refl

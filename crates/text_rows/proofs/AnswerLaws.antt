@@ -10,7 +10,7 @@ use lib.IntN.{ℤ, pos, neg_ℤ, ◌-ℤ◌, +ℤ_idl}
 use lib.Signed.{mag}
 use mir.Syntax.{w64}
 use mir.Val.{SFits, to_z, of_z}
-use mir.ValLaws.{to_z-of_z}
+use mir.ValLaws.{to_z_pos, to_z-of_z}
 use Rattle.std.specs.Prelude.{Option, None, Some, option_map}
 use Rattle.text_rows.specs.Numeral.{minus, number, signed, weight_of}
 use Rattle.text_rows.proofs.DigitLaws.{number_small}
@@ -33,10 +33,21 @@ negated_mag : (n : ℕ) → mag (neg_ℤ (pos n)) ≤ n
 negated_mag zero = omega arith
 negated_mag (suc n) = omega arith
 
+-- a number of nine digits fits with either sign
+module _ (n : ℕ) (small : n < 1000000000) where
+  pub plain_fits : SFits w64 (pos n)
+  plain_fits = record { sfits = omega arith }
+
+  pub plain_bits : to_z w64 n ≡ pos n
+  plain_bits = to_z_pos w64 n (omega arith)
+
+  pub negated_fits : SFits w64 (pos 0 -ℤ to_z w64 n)
+  negated_fits = rw (plain_bits, +ℤ_idl (neg_ℤ (pos n))) (record { sfits = omega (arith, negated_mag n) })
+
 -- as the machine reads it back from its bits
 pub negated_bits : (z : ℤ) → Unsigned z → to_z w64 (of_z w64 (pos 0 -ℤ to_z w64 (of_z w64 z))) ≡ neg_ℤ z
 negated_bits z u =
-    let plain : to_z w64 (of_z w64 (pos u.n)) ≡ pos u.n = to_z-of_z w64 (pos u.n) (record { sfits = omega (arith, u.small) }) in
+    let plain : to_z w64 (of_z w64 (pos u.n)) ≡ pos u.n = to_z-of_z w64 (pos u.n) (plain_fits u.n u.small) in
     let fits : SFits w64 (neg_ℤ (pos u.n)) = record { sfits = omega (arith, u.small, negated_mag u.n) } in
     rw (u.same, plain, +ℤ_idl (neg_ℤ (pos u.n))) (to_z-of_z w64 (neg_ℤ (pos u.n)) fits)
 

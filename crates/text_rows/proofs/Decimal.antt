@@ -1,19 +1,48 @@
--- How many decimal digits a number has.
-use mathlib.Core.Path.{sym, subst}
+-- The decimal digits of a number: by its last digit, and how many they are.
+use mathlib.Core.Path.{◌≡◌, refl, sym, ap, subst, ◌∙◌}
 use mathlib.Core.Bool.{Bool, true, false, cond}
-use mathlib.Core.List.{[], ◌∷◌, ◌++◌}
+use mathlib.Core.List.{List, [], ◌∷◌, ◌++◌}
 use Prim.Native.Nat.{ℕ, zero, suc, ◌+◌, ◌/◌, ◌%◌, ◌≤◌, ◌<◌, ◌^◌}
 use native.Mathlib.Omega.{arith}
 use native.Mathlib.Nat.{pow-suc}
 use lib.Dec.{ltb}
-use borrow.Author.Tests.{lt-ltb}
+use borrow.Author.Tests.{ltb-true, lt-ltb, le-ltb}
 use lib.ListN.{length, length-append}
 use lib.IntN.{ℤ, pos, negsuc, nat_abs}
+use lib.Signed.{lt_z}
 use mir.Syntax.{w64}
 use mir.Val.{SFits}
 use mir.ValLaws.{to_z-of_z}
 use Rattle.algebra.proofs.Quotient.{kept, magnitude_fits}
-use Rattle.text_rows.specs.Numeral.{digits_of, decimal_most, decimal, signed_decimal, digit_zero}
+use Rattle.std.specs.Fmt as printed
+use Rattle.std.proofs.lemmas.Fmt.{AppendsLastDigit, decimal_from_appends, length-decimal-le}
+use Rattle.text_rows.specs.Numeral.{digits_of, decimal_most, decimal, signed_decimal, digit_zero, minus}
+
+-- ---- by the last digit
+
+by_last : AppendsLastDigit digits_of
+unfolding digits_of
+by_last = record { one = λ k n h. rw (lt-ltb n 10 h); more = λ k n h. rw (le-ltb n 10 h) }
+
+-- more than enough digits are as good
+enough : (k n : ℕ) → n < 2 ^ 64 → length (printed.decimal n) ≤ k → digits_of (suc k) n ≡ digits_of k n
+enough k n h l = decimal_from_appends digits_of by_last (suc k) n h (omega arith) ∙ sym (decimal_from_appends digits_of by_last k n h l)
+
+pub decimal_below_ten : (n : ℕ) → n < 10 → (digit_zero + n) ∷ [] ≡ decimal n
+decimal_below_ten n h = sym (by_last.one 19 n h)
+
+-- a number of 64 bits from ten up: the digits of its tenth, then its last digit
+pub decimal_by_last : (n : ℕ) → 10 ≤ n → n < 2 ^ 64 → decimal (n / 10) ++ ((digit_zero + n % 10) ∷ []) ≡ decimal n
+decimal_by_last n h f =
+    ap (λ (d : List ℕ). d ++ ((digit_zero + n % 10) ∷ []))
+    (enough 19 (n / 10) (omega arith) (length-decimal-le 19 (n / 10) (omega arith) (omega arith) (omega arith)))
+    ∙ sym (by_last.more 19 n h)
+
+-- which is one digit more
+pub longer : (n : ℕ) → 10 ≤ n → n < 2 ^ 64 → length (decimal n) ≡ length (decimal (n / 10)) + 1
+longer n h f = sym (ap length (decimal_by_last n h f)) ∙ length-append (decimal (n / 10)) ((digit_zero + n % 10) ∷ [])
+
+-- ---- how many they are
 
 -- a tenth of a number below a power of ten
 tenth : (k n : ℕ) → n < 10 ^ suc k → n / 10 < 10 ^ k
@@ -36,6 +65,14 @@ pub length_decimal : (k n : ℕ) → n < 10 ^ suc k → length (decimal n) ≤ s
 length_decimal k n h = length_digits decimal_most k n h
 
 -- ---- signed numbers
+
+pub signed_below : (x : ℤ) → lt_z x (pos 0) ≡ true → minus ∷ decimal (nat_abs x) ≡ signed_decimal x
+signed_below (pos n) e = absurd (omega (arith, ltb-true n 0 e))
+signed_below (negsuc n) e = refl
+
+pub signed_above : (x : ℤ) → lt_z x (pos 0) ≡ false → decimal (nat_abs x) ≡ signed_decimal x
+signed_above (pos n) e = refl
+signed_above (negsuc n) e = absurd (cc)
 
 -- below a power of ten, and a sign
 pub length_signed : (k : ℕ) (x : ℤ) → nat_abs x < 10 ^ suc k → length (signed_decimal x) ≤ suc (suc k)

@@ -40,6 +40,16 @@ unfolding value_of
 value_append n [] ys = refl
 value_append n (b ∷ xs) ys = value_append (10 * n + (b - digit_zero)) xs ys
 
+-- the test of a digit
+pub is_digit_lem : (b : ℕ) → digit_zero ≤ b → b ≤ digit_nine → is_digit b ≡ true
+is_digit_lem b h l = rw (le-leb digit_zero b h, le-leb b digit_nine l)
+
+pub below_no_digit : (b : ℕ) → b < digit_zero → is_digit b ≡ false
+below_no_digit b h = rw (lt-leb digit_zero b h)
+
+pub above_no_digit : (b : ℕ) → digit_nine < b → is_digit b ≡ false
+above_no_digit b h = rw (le-leb digit_zero b (omega arith), lt-leb b digit_nine h)
+
 digit_most : (b : ℕ) → is_digit b ≡ true → b ≤ digit_nine
 digit_most b h = leb-true b digit_nine (and_right (leb digit_zero b) (leb b digit_nine) h)
 

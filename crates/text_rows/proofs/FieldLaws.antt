@@ -1,5 +1,5 @@
 -- Laws of words and of the fields of a line.
-use Prim.Native.Nat.{ℕ, suc, ◌+◌}
+use Prim.Native.Nat.{ℕ, suc, ◌+◌, ◌<◌}
 use mathlib.Core.Path.{◌≡◌, refl, sym, ap, subst, ◌∙◌}
 use mathlib.Core.Bool.{Bool, true, false, cond, ◌&&◌}
 use mathlib.Core.List.{List, [], ◌∷◌, ◌++◌}
@@ -8,7 +8,8 @@ use borrow.Author.Tests.{eq-eqb, ne_eqb, eqb-true}
 use denote.Param.Members.{Mut, Called}
 use denote.Ref.{Bor}
 use lib.Dec.{eqb}
-use lib.ListN.{length, get_or}
+use lib.ListN.{length, drop, get_or}
+use lib.Seq.{drop-cons}
 use Rattle.std.specs.Prelude.{Option, None, Some, Err}
 use Rattle.std.specs.Bool.{MatchBool}
 use Rattle.std.specs.Fn.{ComputesKey}
@@ -67,7 +68,25 @@ other_word f w h = go (same_bytes f w) refl
         absurd (h (ap length e) (spelled_self w f 0 (λ j. ap (λ (k : ℕ). get_or f k 0) (omega arith) ∙ ap (λ (x : List ℕ). get_or x j 0) e)))
     go false p = refl
 
+-- one byte more of both
+pub bytes_drop :
+    (xs ys : List ℕ) (i : ℕ) → i < length xs → i < length ys → same_bytes (drop i xs) (drop i ys)
+    ≡ (eqb (get_or xs i 0) (get_or ys i 0) && same_bytes (drop (suc i) xs) (drop (suc i) ys))
+unfolding same_bytes
+bytes_drop xs ys i h l = rw (drop-cons xs i 0 h, drop-cons ys i 0 l)
+
 -- ---- fields
+
+-- a line has a field
+pub some_field : (line : List ℕ) → 0 < length (fields line)
+unfolding fields
+some_field [] = omega arith
+some_field (b ∷ bs) = go (eqb b comma) (fields bs)
+  where
+    go : (t : Bool) (fs : List (List ℕ)) → 0 < length (cond t ([] ∷ fs) (push b fs))
+    go true fs = omega arith
+    go false [] = omega arith
+    go false (f ∷ fs) = omega arith
 
 -- where a line is cut
 abbrev pub is_comma : ℕ → Bool

@@ -131,3 +131,23 @@ last_line text from h u =
       parted = rw (same, none) (line_whole s (omega (arith, length-drop from.at text)) unfed);
       fed = inl refl;
     }
+
+-- the ends of `line_end` by a test of the byte before the LF
+pub end_none : (text : List ℕ) (at feed : ℕ) → feed ≡ at → at ≡ at + line_end (drop at text) (feed - at)
+end_none text at feed h = let e : feed - at ≡ 0 = omega arith in rw e (omega arith)
+
+module _ (text : List ℕ) (at feed : ℕ) (h : at < feed) where
+  before : feed - at ≡ suc (feed - at - 1)
+  before = omega arith
+
+  byte : get_or (drop at text) (feed - at - 1) 0 ≡ get_or text (feed - 1) 0
+  byte = get_or-drop at text (feed - at - 1) 0 ∙ ap (λ (k : ℕ). get_or text k 0) (omega arith)
+
+  pub end_return : get_or text (feed - 1) 0 ≡ carriage_return → feed - 1 ≡ at + line_end (drop at text) (feed - at)
+  end_return e =
+      rw before (rw (eq-eqb (get_or (drop at text) (feed - at - 1) 0) carriage_return (byte ∙ e)) (omega arith))
+
+  pub end_other : (get_or text (feed - 1) 0 ≡ carriage_return → ⊥) → feed ≡ at + line_end (drop at text) (feed - at)
+  end_other e =
+      rw before (rw (ne_eqb (get_or (drop at text) (feed - at - 1) 0) carriage_return
+      (λ (g : get_or (drop at text) (feed - at - 1) 0 ≡ carriage_return). e (sym byte ∙ g))) (omega arith))

@@ -3,7 +3,7 @@ use Rattle.std.proofs.Common.{◌≡◌, ◌∙◌, ap, rules, w64, FitsSigned, 
 use Rattle.ground.specs.Answers.{number_of}
 use Rattle.exact.specs.declared.Fraction.{Fraction}
 use Rattle.single_fractions.specs.Slack.{SlackAnswer, slack_answer, slack_given}
-use Rattle.dirmoog_c.proofs.Telling.{told_both, slack_given_told, slack_place}
+use Rattle.dirmoog_c.proofs.Telling.{told_both, slack_place}
 use Rattle.dirmoog_c.proofs.dirmoog_slack.Goals as goal
 
 pub returns : goal.returns
@@ -21,9 +21,9 @@ returns c =
       to_z-of_z c.ranges.right_den,
       to_z-of_z c.ranges.distance,
     ) at c.slack-answer.ensures in
-    let told = c.unwrap_or-given.result in
+    let told = c.slack_given-given.result in
     let given : told ≡ slack_given asked =
-    c.unwrap_or-given.ensures ∙ slack_given_told c.slack-answer.result ∙ ap slack_given answered in
+    c.slack_given-given.ensures ∙ ap slack_given answered in
     -- the numbers told, as they are read back
     let num_fits : FitsSigned w64 told.num = search rules in
     let den_fits : FitsSigned w64 told.den = search rules in

@@ -28,7 +28,7 @@ returns c =
     let one = c.side-one.ensures.found in
     let two = c.side-two.ensures.found in
     let lim = c.requires.0 in (
-      rw (c.decide.ensures, read_back c.args.push.reach c.requires.3 (omega arith)) (decide_gives c.args.push lim c.requires.1 c.requires.2 one two c.if-one.false c.side-two.new.w),
+      rw (c.decide.ensures, read_back c.args.push.reach c.requires.3 (omega arith)) (decide_gives c.args.push lim c.requires.1 c.requires.2 one two c.if-one.false _),
       inr (record {
         w₁ = _;
         one = searched_from lim one c.side-one.ensures.rest;

@@ -1,5 +1,5 @@
 -- Each call finds what those before it left, and the laws of a searched block bound it.
-use Rattle.std.proofs.Common.{arith, to_z-of_z}
+use Rattle.std.proofs.Common.{arith, refl, to_z-of_z}
 use Rattle.core_elimination.proofs.Ranges.{total_word}
 use Rattle.core_elimination.proofs.SearchedBlock.{block_ordered, block_listed, block_range, block_sums, surplus_light}
 use Rattle.core_advance.proofs.EndBlock.{shares_moderate, moderate_small, block_breakable}
@@ -63,6 +63,7 @@ returns c =
       share = c.eliminate-2.new.held;
       found =
           record {
+            counted = refl;
             tree = t;
             weight = c.sums-sums.ensures.0;
             wanted = c.sums-sums.ensures.1;

@@ -1,9 +1,14 @@
--- A turn writes one fraction more (`reduced_turn`). Numbers are handed on as bits, and read back as they were.
+-- Where none is known, the divisor is that of 0/1. A turn writes one fraction more (`reduced_turn`). Numbers are handed on as
+-- bits, and read back as they were.
 use Rattle.std.proofs.Common.{◌≡◌, arith, rules, w64, to_z, of_z}
 use Rattle.exact.specs.Fraction.{Reduced, fraction_at}
+use Rattle.exact.proofs.Divisor.{none_divides}
 use Rattle.ground.specs.Entries.{int}
 use Rattle.core_project.proofs.Passes.{reduced_turn}
 use Rattle.core_project.proofs.write.fractions_out.Goals as goal
+
+pub loop-k-init : goal.loop-k-init
+loop-k-init c = (search rules, rw c.no_divisor-known.ensures none_divides)
 
 pub loop-k-preserved : goal.loop-k-preserved
 loop-k-preserved c =

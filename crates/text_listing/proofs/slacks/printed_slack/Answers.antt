@@ -1,20 +1,13 @@
 -- `text_listing::slacks::printed_slack` meets its contract: 0/1 where an end is no label, else what the entry over single
 -- fractions gives for the two places.
-use Rattle.std.proofs.Common.{◌≡◌, ◌∙◌, refl, ap, pos, FitsSigned, w64, rules}
-use Rattle.std.specs.Prelude.{Ok, Err}
-use Rattle.std.specs.Result.{result_unwrap_or}
-use Rattle.exact.specs.Fraction.{whole}
+use Rattle.std.proofs.Common.{◌∙◌, ap, FitsSigned, w64, rules}
 use mir.ValLaws.{to_z-of_z}
 use Rattle.ground.specs.Entries.{nat, int}
-use Rattle.single_fractions.specs.Slack.{SlackAnswer, slack_answer, slack_given}
+use Rattle.single_fractions.specs.Slack.{slack_answer, slack_given}
 use Rattle.text_listing.specs.Listing.{listable_of}
 use Rattle.text_listing.proofs.PrintedSlack.{left_missing, right_missing, slack_given_lem}
 use Rattle.text_listing.proofs.slacks.printed_slack.Goals.{then-lent-u-via-then-lent-u, then-lent-u-via-else-lent-u+then-lent-v}
 use Rattle.text_listing.proofs.slacks.printed_slack.Goals as goal
-
-given : (r : SlackAnswer) → result_unwrap_or r (whole (pos 0)) ≡ slack_given r
-given (Ok q) = refl
-given (Err e) = refl
 
 pub returns-then-lent-u : goal.returns-then-lent-u
 returns-then-lent-u c =
@@ -37,8 +30,7 @@ returns c =
     let rn : FitsSigned w64 (int l.place_num v) = search rules in
     let rd : FitsSigned w64 (int l.place_den v) = search rules in
     let d : FitsSigned w64 (int l.distance e) = search rules in
-    c.unwrap_or.ensures
-    ∙ given c.slack.result
+    c.slack_given.ensures
     ∙ ap slack_given (c.slack.ensures ∙ (λ i. slack_answer
     (record { num = to_z-of_z w64 (int l.place_num u) ln i; den = to_z-of_z w64 (int l.place_den u) ld i })
     (record { num = to_z-of_z w64 (int l.place_num v) rn i; den = to_z-of_z w64 (int l.place_den v) rd i })
