@@ -5,20 +5,21 @@ use mathlib.Core.Bool.{Bool, true, false, cond, ◌&&◌}
 use mathlib.Core.List.{List, ◌++◌}
 use lib.Dec.{leb, ltb}
 use lib.ListN.{length, set, drop}
-use lib.IntN.{ℤ}
+use lib.IntN.{ℤ, pos}
 use mir.Syntax.{w64}
 use mir.Val.{SFits, to_z, of_z}
 use mir.ValLaws.{to_z-of_z}
 use Rattle.std.specs.Prelude.{Ok, Err}
 use Rattle.std.specs.Result.{result_unwrap_or}
+use Rattle.exact.specs.Fraction.{whole}
 use Rattle.ground.specs.Answers.{Answer, refused_place}
 use Rattle.ground.specs.Limits.{labels_most, gaps_most}
 use Rattle.exact.specs.declared.Fraction.{Fraction}
 use Rattle.single_fractions.specs.declared.Ties.{Ties}
 use Rattle.single_fractions.specs.Places.{within_places}
-use Rattle.single_fractions.specs.Round.{rounded, whole_by, refusal12}
+use Rattle.single_fractions.specs.Round.{Rounded, rounded, whole_by, whole_of, refusal12}
 use Rattle.exact.specs.Slack.{slack_between}
-use Rattle.single_fractions.specs.Slack.{slack_answer, within_distance, refusal}
+use Rattle.single_fractions.specs.Slack.{SlackAnswer, slack_answer, slack_given, within_distance, refusal}
 use Rattle.text_listing.specs.Listing.{Listable, Listed, bytes_of, labels_in, gaps_in, even, listed_in, laid, listed_as, not_listed, sheet_records, refused_record}
 use Rattle.text_listing.specs.Listing as writing
 use Rattle.dirmoog_c.specs.Exported.{RoundTold}
@@ -35,6 +36,14 @@ told_both {A} before between {second = second} one is-first two is-second =
     told_at between 1 two is-second ∙ ap (λ (l : List A). set l 1 second) (told_at before 0 one is-first)
 
 -- ---- what is told of an answer
+
+pub whole_told : (r : Rounded) → result_unwrap_or r (pos 0) ≡ whole_of r
+whole_told (Ok z) = refl
+whole_told (Err e) = refl
+
+pub slack_given_told : (r : SlackAnswer) → result_unwrap_or r (whole (pos 0)) ≡ slack_given r
+slack_given_told (Ok q) = refl
+slack_given_told (Err e) = refl
 
 pub bytes_told : (r : Listed) → result_unwrap_or r 0 ≡ bytes_of r
 bytes_told (Ok n) = refl
