@@ -46,12 +46,17 @@ fn refuse_at(offender: Option<usize>, rule: Rule) -> Answer
     }
 }
 
-// The first number of the list outside the range from least to most.
+// The first number of the list outside the range from least to most. A `for` and no `position`: so where it begins stands in the
+// text, and an edit can move it.
 fn first_outside(list: &[i64], least: i64, most: i64) -> Option<usize>
     ensures { result ≡ position (outside least most) list.now }
 {
-    list.iter()
-        .position(|number| *number < least || most < *number)
+    for place in 0..list.len() {
+        if list[place] < least || most < list[place] {
+            return Some(place);
+        }
+    }
+    None
 }
 
 // The first gap of which an end is no label of the sheet.
