@@ -1,7 +1,7 @@
 -- What the checks' searches and tests show of the refusal table: the first offender of a row, and checks one after another.
-use Prim.Native.Nat.{ℕ, zero, suc, ◌+◌, ◌<◌, ◌≤◌}
+use Prim.Native.Nat.{ℕ, zero, suc, ◌<◌, ◌≤◌}
 use mathlib.Core.Path.{◌≡◌, refl, sym, ◌∙◌, ap}
-use mathlib.Core.Bool.{Bool, true, false, cond, true≢false}
+use mathlib.Core.Bool.{Bool, true, false, cond}
 use mathlib.Core.List.{List, [], ◌∷◌, ◌++◌, map}
 use native.Mathlib.Omega.{arith}
 use lib.Dec.{ltb}
@@ -54,27 +54,19 @@ first_bad row k = first_below row.number row.bad k row.count
 
 -- ---- a search, place by place
 
-module _ {A : Type 0} (bad : A → Bool) (list : List A) (none : A) {k : ℕ} (before : k ≤ position_or_len bad list) where
-  -- a place without an offender is passed
-  pub search_more : k < length list → bad (get_or list k none) ≡ false → k + 1 ≤ position_or_len bad list
-  search_more h clear = at (ltb k (position_or_len bad list)) refl
-    where
-      at : (t : Bool) → ltb k (position_or_len bad list) ≡ t → k + 1 ≤ position_or_len bad list
-      at true e = omega (arith, ltb-true k (position_or_len bad list) e)
-      at false e =
-          let same : position_or_len bad list ≡ k = omega (arith, ltb-false k (position_or_len bad list) e) in
-          absurd (true≢false (sym (passes_at_first bad list none (omega arith)) ∙ (ap (λ n. bad (get_or list n none)) same ∙ clear)))
-
-  -- an offender at the place is the first
+module _ {A : Type 0} (bad : A → Bool) (list : List A) (none : A) {k : ℕ} (clear : (j : ℕ) → j < k → bad (get_or list j none) ≡ false) where
+  -- the first offender, where none stands before it
   pub search_found : k < length list → bad (get_or list k none) ≡ true → Some k ≡ position bad list
   search_found h e =
-      let clear = λ (j : ℕ) (l : j < k). fails_before_first bad list j none (omega arith) in
       let same : position_or_len bad list ≡ k = position_or_len_is bad list k none (omega arith) clear (λ l. e) in
       ap (λ n. Some n) (sym same) ∙ cond_below (position_or_len bad list) (length list) (Some (position_or_len bad list)) None (omega arith)
 
-  -- at the end there is none
+  -- none in the whole list
   pub search_none : length list ≤ k → None ≡ position bad list
-  search_none h = cond_above (position_or_len bad list) (length list) (Some (position_or_len bad list)) None None (omega arith) refl
+  search_none h =
+      let before = λ (j : ℕ) (l : j < length list). clear j (omega arith) in
+      let same : position_or_len bad list ≡ length list = position_or_len_is bad list (length list) none (omega arith) before (λ l. absurd (omega arith)) in
+      cond_above (position_or_len bad list) (length list) (Some (position_or_len bad list)) None None (omega arith) refl
 
 -- what a search finds is the first of a row's offenders
 module _ {A : Type 0} (number : ℕ) (bad : A → Bool) (list : List A) (none : A) where

@@ -1,8 +1,7 @@
--- No number before the place is outside.
-use Rattle.std.proofs.Common.{◌≤◌}
-use Rattle.std.specs.List.{position_or_len}
+-- The numbers before the place are inside.
+use Rattle.std.proofs.Common.{◌≡◌, ◌<◌, ℕ, false, get_or, pos}
 use Rattle.sheet_checks.specs.Refusals.{outside}
 use Rattle.sheet_checks.proofs.check.first_outside.Given as goal
 
 abbrev pub invariant-loop-place : goal.invariant-loop-place
-invariant-loop-place l = l.place ≤ position_or_len (outside l.least l.most) l.list
+invariant-loop-place l = (j : ℕ) → j < l.place → outside l.least l.most (get_or l.list j (pos 0)) ≡ false
