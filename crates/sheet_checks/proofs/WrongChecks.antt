@@ -143,3 +143,15 @@ weight_before_stranger = refl
 gap_before_kind : table (joined wants weights (0 ∷ 0 ∷ []) (1 ∷ 1 ∷ []) (pos 10 ∷ pos (distance_most + 1) ∷ []) (2 ∷ 0 ∷ [])) (room 2 2 2) ≡ refuse 8 1
 unfolding table_of offender_below
 gap_before_kind = refl
+
+-- ---- two offenders of one check: the first is told
+
+-- both labels are off the plate, on either side
+first_off_plate : table (lent (neg_ℤ (pos (wanted_most + 1)) ∷ pos (wanted_most + 1) ∷ []) weights [] [] []) (room 2 0 2) ≡ refuse 5 0
+unfolding table_of offender_below
+first_off_plate = refl
+
+-- gaps 1 and 2 are too long
+first_too_long : table (lent wants weights (many 3 0) (many 3 1) (pos 10 ∷ pos (distance_most + 1) ∷ pos (distance_most + 2) ∷ [])) (room 2 3 2) ≡ refuse 8 1
+unfolding table_of offender_below
+first_too_long = refl
